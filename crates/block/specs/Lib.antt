@@ -1,0 +1,11 @@
+pub mod Limits
+pub mod Lists
+pub mod Block
+pub mod Refusal
+pub mod Exact
+pub mod Stages
+pub mod Answer
+pub mod Grammar
+pub mod Sets
+pub mod First
+pub mod Rule1
