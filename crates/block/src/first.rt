@@ -27,10 +27,12 @@ pub struct FirstSets {
     pub first: [u64; FIRST_WORDS],
 }
 
+// What is ahead in the rest, which may be any part of a right side.
 pub fn first_of(rest: &[u32], nullable: &[bool; RULES], first: &[u64; FIRST_WORDS]) -> Lookahead
     requires { ⌜ Small (now rest) ⌝ }
     ensures { λ r. ⌜ ((F : List Ahead) → Stored F (now (nullable .entry)) (now (first .entry)) → AheadIs r (aheadOf F (now (rest .entry)))) ⌝ }
 {
+    // A slice tells its length, a reference to an array does not.
     let sets: &[u64] = first;
     let mut set = TokenSet::empty();
     let mut i = 0;
@@ -90,6 +92,7 @@ fn one_round(block: &[u32], nullable: &mut [bool; RULES], first: &mut [u64; FIRS
     grew
 }
 
+// The rounds from nothing, until one changes nothing.
 pub fn firsts(block: &[u32]) -> FirstSets
     requires { ⌜ Good (now block) ⌝ }
     ensures { λ r. ⌜ Stored (firstsOf (now (block .entry))) (r .nullable) (r .first) ⌝ }

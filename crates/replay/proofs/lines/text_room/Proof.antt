@@ -1,0 +1,12 @@
+-- `text_room` has its length: by the law, since counting it out takes too long. Assumes nothing.
+use mathlib.Core.Path.{sym}
+use Prim.Native.Nat.{ℕ}
+use lib.ListN.{length-replicate}
+use Rattle.replay.proofs.lines.text_room.Statement.{statement}
+use Rattle.replay.proofs.lines.text_room.Tie as tie
+
+returns : tie.Need-returns
+returns c = sym (length-replicate {0} {A = ℕ} 2097152 0)
+
+pub text-room-spec : {M : Type 1} → statement M
+text-room-spec = tie.close (tie.spec returns)

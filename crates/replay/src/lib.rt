@@ -1,0 +1,13 @@
+// Replays a list of cases from standard input: each line is one case, and every word that it expects is compared with
+// what the library answers. The lists and their form are the oracle's (lists/FORMAT.md).
+mod block_cases;
+mod lines;
+
+pub use lines::replay;
+
+// The lists, by the numbers that the list of refusals gives them; those that it leaves out follow.
+pub const BLOCKS: u64 = 0;
+
+pub const BODIES: u64 = 1;
+
+pub const FIRSTS: u64 = 6;

@@ -1,0 +1,4 @@
+// Replays the list of firsts.
+fn main() {
+    replay::replay(b"firsts: ", replay::FIRSTS);
+}

@@ -1,0 +1,14 @@
+// Decimal numbers in a text, with blanks between them, and lines of numbers: how grammars and lists of cases are read.
+mod parts;
+mod scan;
+
+pub use parts::behind;
+pub use parts::narrow;
+pub use parts::part;
+pub use parts::same;
+pub use parts::same32;
+pub use scan::Line;
+pub use scan::Word;
+pub use scan::index;
+pub use scan::next_line;
+pub use scan::next_word;
