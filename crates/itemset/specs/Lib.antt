@@ -1,0 +1,13 @@
+pub mod Rows
+pub mod Close
+pub mod Goto
+pub mod Kernel
+pub mod Equal
+pub mod Ready
+pub mod Rule2
+pub mod Rule4
+pub mod Opens
+pub mod Lay
+pub mod Lent
+pub mod Work
+pub mod Sights

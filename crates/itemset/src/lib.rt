@@ -1,0 +1,10 @@
+// Closure and goto of a kernel (itemset.rs).
+mod closure;
+mod goto;
+mod lay;
+mod zeros;
+
+pub use closure::close;
+pub use goto::Sights;
+pub use goto::goto_kernel;
+pub use goto::sights_of;
