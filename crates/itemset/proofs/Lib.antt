@@ -31,3 +31,5 @@ pub mod Rule4
 pub mod After
 pub mod Going
 pub mod Seen
+pub mod Right
+pub mod Read

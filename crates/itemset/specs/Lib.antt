@@ -11,3 +11,4 @@ pub mod Lay
 pub mod Lent
 pub mod Work
 pub mod Sights
+pub mod Right

@@ -16,7 +16,7 @@ use words::same;
 use words::same32;
 
 // Most words of a block in a case.
-const BLOCK: usize = 16384;
+pub const BLOCK: usize = 16384;
 
 // [block] → number
 pub fn block_holds(words: &[u64]) -> bool {

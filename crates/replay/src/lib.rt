@@ -1,6 +1,7 @@
 // Replays a list of cases from standard input: each line is one case, and every word that it expects is compared with
 // what the library answers. The lists and their form are the oracle's (lists/FORMAT.md).
 mod block_cases;
+mod itemset_cases;
 mod lines;
 
 pub use lines::replay;
@@ -11,3 +12,5 @@ pub const BLOCKS: u64 = 0;
 pub const BODIES: u64 = 1;
 
 pub const FIRSTS: u64 = 6;
+
+pub const CLOSURES: u64 = 7;

@@ -1,10 +1,12 @@
 // The lines of a list, from the first to the last.
 use crate::BLOCKS;
 use crate::BODIES;
+use crate::CLOSURES;
 use crate::FIRSTS;
 use crate::block_cases::block_holds;
 use crate::block_cases::body_holds;
 use crate::block_cases::firsts_hold;
+use crate::itemset_cases::closure_holds;
 use words::Line;
 use words::next_line;
 ghost use mathlib.Core.Path.{_≡_};
@@ -34,6 +36,7 @@ fn holds(list: u64, words: &[u64]) -> bool {
         BLOCKS => block_holds(words),
         BODIES => body_holds(words),
         FIRSTS => firsts_hold(words),
+        CLOSURES => closure_holds(words),
         _ => false,
     }
 }

@@ -1,0 +1,4 @@
+// Replays the list of closures.
+fn main() {
+    replay::replay(b"closures: ", replay::CLOSURES);
+}
