@@ -3,6 +3,7 @@
 mod block_cases;
 mod itemset_cases;
 mod lines;
+mod pager_cases;
 
 pub use lines::replay;
 
@@ -11,6 +12,11 @@ pub const BLOCKS: u64 = 0;
 
 pub const BODIES: u64 = 1;
 
+pub const GRAPHS: u64 = 2;
+
 pub const FIRSTS: u64 = 6;
 
 pub const CLOSURES: u64 = 7;
+
+// The list of refusals: each line names its call by one of the numbers above.
+pub const REFUSALS: u64 = 8;

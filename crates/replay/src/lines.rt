@@ -3,10 +3,13 @@ use crate::BLOCKS;
 use crate::BODIES;
 use crate::CLOSURES;
 use crate::FIRSTS;
+use crate::GRAPHS;
+use crate::REFUSALS;
 use crate::block_cases::block_holds;
 use crate::block_cases::body_holds;
 use crate::block_cases::firsts_hold;
 use crate::itemset_cases::closure_holds;
+use crate::pager_cases::graph_holds;
 use words::Line;
 use words::next_line;
 ghost use mathlib.Core.Path.{_≡_};
@@ -30,15 +33,27 @@ enum Case {
     Fault(usize),
 }
 
-// Whether the library answers what the case expects.
-fn holds(list: u64, words: &[u64]) -> bool {
+// Whether the library answers what the case of a call expects.
+fn call_holds(list: u64, words: &[u64]) -> bool {
     match list {
         BLOCKS => block_holds(words),
         BODIES => body_holds(words),
+        GRAPHS => graph_holds(words),
         FIRSTS => firsts_hold(words),
         CLOSURES => closure_holds(words),
         _ => false,
     }
+}
+
+// Whether the library answers what the case expects; in the list of refusals the call stands first.
+fn holds(list: u64, words: &[u64]) -> bool {
+    if list != REFUSALS {
+        return call_holds(list, words);
+    }
+    if words.len() == 0 {
+        return false;
+    }
+    call_holds(words[0], &words[1..])
 }
 
 // The case on the line that comes next from `at` on.
