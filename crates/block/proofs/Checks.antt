@@ -1,15 +1,15 @@
--- What a check of the code still has to find out where all its tests but the last have passed. Assumes nothing.
+-- What a check of the code has read, and what it still has to find out where all its tests but the last have passed. Assumes nothing.
 use mathlib.Core.Bool.{Bool, not}
 use mathlib.Core.List.{List}
 use mathlib.Core.Path.{_≡_, sym, ap, _∙_}
-use Prim.Native.Nat.{ℕ, _+_, _%_, _<_, _≤_}
+use Prim.Native.Nat.{ℕ, _+_, _*_, _%_, _<_, _≤_}
 use native.Mathlib.Numerals.{add-one}
 use native.Mathlib.Omega.{arith}
 use lib.Dec.{eqb}
 use lib.ListN.{length, getD}
 use Rattle.block.specs.Limits.{HEADER, TOKENS, RULES, PRODS, SYMBOLS, LENGTH}
 use Rattle.block.specs.Lists.{any, upto}
-use Rattle.block.specs.Block.{tokens, rules, prods, symbols, endToken, startProd, symbolsAt, precsAt, ruleOf, firstOf, lengthOf, symbolAt}
+use Rattle.block.specs.Block.{tokens, rules, prods, symbols, endToken, startProd, symbolsAt, precsAt, ruleOf, firstOf, lengthOf, symbolAt, tokenPrec}
 use Rattle.block.specs.Refusal.{between, tooLarge, misplaced, lengths, badProduction, startAgain, badStart}
 use Rattle.block.specs.Exact.{Outside, tokens-out, rules-out, prods-out, symbols-out, prods-differ, symbols-differ, precs-differ, length-differs, WrongProduction, no-rule, first-wrong, too-long, wrong-production, sum-differs, end-past, start-past, not-one, not-rule, again}
 use Rattle.block.proofs.Says.{Denies, denies-as, says-as, says-not, says-map, denies-map, denies-eq, says-any, agree, oppose}
@@ -20,6 +20,13 @@ pub range-denies : (lo hi : ℕ) {t : Bool} (n m : ℕ) → t ≡ between lo hi 
 range-denies lo hi n m e q = denies-as (e ∙ ap (between lo hi) q) (between-denies lo hi m)
 
 module _ (b : List ℕ) where
+  -- a word read at a place that was reckoned from words read before
+  pub symbol-there : {n x : ℕ} (i : ℕ) → x ≡ getD b (HEADER + 4 * n + i) 0 → n ≡ prods b → x ≡ symbolAt b i
+  symbol-there i h e = h ∙ ap (λ m. getD b (HEADER + 4 * m + i) 0) e
+
+  pub prec-there : {n s x : ℕ} (t : ℕ) → x ≡ getD b (HEADER + 4 * n + s + t) 0 → n ≡ prods b → s ≡ symbols b → x ≡ tokenPrec b t
+  prec-there {n = n} t h e f = h ∙ ap (λ m. getD b (HEADER + 4 * n + m + t) 0) f ∙ ap (λ m. getD b (HEADER + 4 * m + symbols b + t) 0) e
+
   pub large-last : (Outside 1 TOKENS (tokens b) → ⊥) → (Outside 1 RULES (rules b) → ⊥) → (Outside 1 PRODS (prods b) → ⊥)
       → {t : Bool} → Denies t (Outside 0 SYMBOLS (symbols b)) → not t ≡ tooLarge b
   large-last h k m d =

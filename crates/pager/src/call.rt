@@ -1,6 +1,8 @@
 // The call that builds the graph: refusals 1 to 9, the graph, collection.
 use crate::build::build_graph;
 use crate::collect::collect_states;
+use crate::limits::ITEMS;
+use crate::limits::STATES;
 use crate::room::Count;
 use crate::room::Room;
 use crate::zero::clear_room;
@@ -19,12 +21,6 @@ ghost use Rattle.pager.specs.Building.{BuiltBy};
 ghost use Rattle.pager.specs.Call.{lent, named, roomShort, closedPart, kernelPart, zeroed, graphCall, counted, answerOf, written, leaves};
 ghost use Rattle.pager.specs.CallSteps.{Roomy, behindOf, Outcome, Unfinished, Finished};
 
-// Most states that a caller may name.
-const STATES: usize = 4096;
-
-// Most kernel items of all states that a caller may name.
-const ITEMS: usize = 65536;
-
 // States and items kept, and the states before collection.
 pub struct Kept {
     pub states: usize,
@@ -38,7 +34,7 @@ pub enum Graphed {
 }
 
 // Refusal 7, by the lengths of the lent buffers.
-fn room_short(
+pub fn room_short(
     block: &[u32],
     room: Room,
     items: usize,

@@ -46,7 +46,7 @@ returns : tie.Need-returns Inv-loop μ-loop
 returns c =
     let b = now (c .before .before .before .before .before .before .before .args .block) in
     let p = c .before .before .before .before .loop .p in
-    let e : c .before .before .word2 .result ≡ prodPrec b p = cc in
+    let e : c .before .before .word2 .result ≡ prodPrec b p = c .before .before .word2 .ensures .0 in
     refused (prod-precs-says b) (p, omega arith, refuses (denies-as (c .before .prec-right .ensures ∙ ap goodPrec e) (prec-denies (prodPrec b p))) (c .if1 .taken))
 
 add-p : tie.Need-add-p Inv-loop μ-loop
@@ -59,7 +59,7 @@ loop-again : tie.Need-loop-again Inv-loop μ-loop
 loop-again c =
     let b = now (c .before .before .before .before .before .before .before .args .block) in
     let p = c .before .before .before .before .loop .p in
-    let e : c .before .before .word2 .result ≡ prodPrec b p = cc in
+    let e : c .before .before .word2 .result ≡ prodPrec b p = c .before .before .word2 .ensures .0 in
     (omega arith, below-more (λ j. WrongPrec (prodPrec b j) → ⊥) p (c .before .before .before .before .loop .inv .1) (allows (denies-as (c .before .prec-right .ensures ∙ ap goodPrec e) (prec-denies (prodPrec b p))) (c .if1 .left)))
 
 returns-2 : tie.Need-returns-2 Inv-loop μ-loop

@@ -1,6 +1,6 @@
 -- `check::rule_again` meets its contract. Assumes nothing.
 use mathlib.Core.Logic.{⊎-elim, _≢_}
-use mathlib.Core.Path.{_≡_, sym}
+use mathlib.Core.Path.{_≡_, sym, ap, _∙_}
 use Prim.Native.Nat.{ℕ, _-_, _<_, _≤_}
 use native.Mathlib.Omega.{arith}
 use lib.Dec.{eqb}
@@ -20,6 +20,10 @@ Inv-loop block prods start rule q₀ q = (q ≤ prods) × ((p : ℕ) → p < q �
 
 abbrev μ-loop : tie.MeasureT-loop
 μ-loop block prods start rule q₀ q = prods - q
+
+-- the rule that is looked for
+rule-is : (c : tie.After-word3 Inv-loop μ-loop) → let b = now (c .before .before .before .before .args .block) in c .word3 .result ≡ ruleOf b (startProd b)
+rule-is c = c .word3 .ensures .0 ∙ ap (ruleOf (now (c .before .before .before .before .args .block))) (c .before .word2 .ensures .0)
 
 word-requires : tie.Need-word-requires Inv-loop μ-loop
 word-requires c κs = search needs
@@ -54,7 +58,10 @@ returns : tie.Need-returns Inv-loop μ-loop
 returns c =
     let b = now (c .before .before .before .before .before .before .before .before .before .args .block) in
     let q = c .before .before .before .before .loop .q in
-    sym (says-true (says-any (startAgain b) (again-says b) (prods b)) (q, omega arith, (cc, eqb-false q (startProd b) (not-true (eqb q (startProd b)) (cc)))))
+    let s = c .before .before .before .before .before .before .word2 in
+    let same : ruleOf b q ≡ ruleOf b (startProd b) = sym (c .before .before .word4 .ensures .0) ∙ c .before .if1 .taken ∙ rule-is (c .before .before .before .before .before) in
+    let other : q ≢ startProd b = λ e. eqb-false q (s .result) (not-true (eqb q (s .result)) (c .if2 .taken)) (e ∙ sym (s .ensures .0)) in
+    sym (says-true (says-any (startAgain b) (again-says b) (prods b)) (q, omega arith, (same, other)))
 
 add-q : tie.Need-add-q Inv-loop μ-loop
 add-q c = search needs
@@ -65,10 +72,11 @@ loop-less c = search needs
 loop-again : tie.Need-loop-again Inv-loop μ-loop
 loop-again c =
     let b = now (c .before .before .before .before .before .before .before .before .args .block) in
-    let q = c .before .before .before .loop .q in (
+    let q = c .before .before .before .loop .q in
+    let s = c .before .before .before .before .before .word2 in (
       omega arith,
       below-more (λ p. (ruleOf b p ≡ ruleOf b (startProd b)) × (p ≢ startProd b) → ⊥) q (c .before .before .before .loop .inv .1)
-          (λ h. ⊎-elim (λ w. h .1 (eqb-true q (startProd b) (not-false (eqb q (startProd b)) (cc)))) (λ w. w .left (cc)) (c .if1 .came)),
+          (λ h. ⊎-elim (λ w. h .1 (eqb-true q (s .result) (not-false (eqb q (s .result)) (w .1 .left)) ∙ s .ensures .0)) (λ w. w .left (c .before .word4 .ensures .0 ∙ h .0 ∙ sym (rule-is (c .before .before .before .before)))) (c .if1 .came)),
     )
 
 returns-2 : tie.Need-returns-2 Inv-loop μ-loop

@@ -1,5 +1,5 @@
 -- `check::symbol_right` meets its contract. Assumes nothing.
-use mathlib.Core.Path.{_≡_}
+use mathlib.Core.Path.{_≡_, ap, _∙_}
 use Prim.Native.Nat.{_/_, _%_}
 use native.Mathlib.Omega.{arith}
 use denote.Ref.{now}
@@ -36,7 +36,7 @@ unfolding goodSymbol
 returns c =
     let b = now (c .before .before .before .before .before .before .args .block) in
     let x = c .before .before .before .before .before .before .args .x in
-    let e : c .word3 .result ≡ ruleOf b (startProd b) = cc in
+    let e : c .word3 .result ≡ ruleOf b (startProd b) = c .word3 .ensures .0 ∙ ap (ruleOf b) (c .before .before .before .word .ensures .0) in
     rw (eq-eqb (x % 2) 0 (omega arith), lt-ltb (x / 2) (rules b) (omega arith), e)
 
 returns-2 : tie.Need-returns-2

@@ -9,6 +9,7 @@ use Rattle.block.specs.Block.{symbols, symbolAt}
 use Rattle.block.specs.Refusal.{goodSymbol}
 use Rattle.block.specs.Exact.{WrongSymbol, wrong-symbol}
 use Rattle.block.proofs.Says.{denies-as, refuses, allows, refused, allowed}
+use Rattle.block.proofs.Checks.{symbol-there}
 use Rattle.block.proofs.Rows.{symbol-denies, symbols-says}
 use Rattle.block.proofs.check.symbols_right.Statement.{statement}
 use Rattle.block.proofs.check.symbols_right.Tie as tie
@@ -18,6 +19,10 @@ Inv-loop block at symbols i₀ i = (i ≤ symbols) × ((j : ℕ) → j < i → W
 
 abbrev μ-loop : tie.MeasureT-loop
 μ-loop block at symbols i₀ i = symbols - i
+
+-- what the word read in a turn is
+symbol-is : (c : tie.After-word3 Inv-loop μ-loop) → c .word3 .result ≡ symbolAt (now (c .before .before .before .before .before .before .args .block)) (c .before .before .loop .i)
+symbol-is c = symbol-there (now (c .before .before .before .before .before .before .args .block)) (c .before .before .loop .i) (c .word3 .ensures .0) (c .before .before .before .before .word .ensures .0)
 
 word-requires : tie.Need-word-requires Inv-loop μ-loop
 word-requires c κs = search needs
@@ -49,7 +54,7 @@ returns : tie.Need-returns Inv-loop μ-loop
 returns c =
     let b = now (c .before .before .before .before .before .before .before .before .args .block) in
     let i = c .before .before .before .before .loop .i in
-    let e : c .before .before .word3 .result ≡ symbolAt b i = cc in
+    let e = symbol-is (c .before .before) in
     refused (symbols-says b) (wrong-symbol i (omega arith) (refuses (denies-as (c .before .symbol-right .ensures ∙ ap (goodSymbol b) e) (symbol-denies b (symbolAt b i))) (c .if1 .taken)))
 
 add-i : tie.Need-add-i Inv-loop μ-loop
@@ -62,7 +67,7 @@ loop-again : tie.Need-loop-again Inv-loop μ-loop
 loop-again c =
     let b = now (c .before .before .before .before .before .before .before .before .args .block) in
     let i = c .before .before .before .before .loop .i in
-    let e : c .before .before .word3 .result ≡ symbolAt b i = cc in
+    let e = symbol-is (c .before .before) in
     (omega arith, below-more (λ j. WrongSymbol b (symbolAt b j) → ⊥) i (c .before .before .before .before .loop .inv .1) (allows (denies-as (c .before .symbol-right .ensures ∙ ap (goodSymbol b) e) (symbol-denies b (symbolAt b i))) (c .if1 .left)))
 
 returns-2 : tie.Need-returns-2 Inv-loop μ-loop

@@ -9,6 +9,7 @@ use Rattle.block.specs.Block.{tokens, tokenPrec}
 use Rattle.block.specs.Refusal.{goodPrec}
 use Rattle.block.specs.Exact.{WrongPrec}
 use Rattle.block.proofs.Says.{denies-as, refuses, allows, refused, allowed}
+use Rattle.block.proofs.Checks.{prec-there}
 use Rattle.block.proofs.Rows.{prec-denies, token-precs-says}
 use Rattle.block.proofs.check.token_precs_right.Statement.{statement}
 use Rattle.block.proofs.check.token_precs_right.Tie as tie
@@ -18,6 +19,11 @@ Inv-loop block tokens at t₀ t = (t ≤ tokens) × ((j : ℕ) → j < t → Wro
 
 abbrev μ-loop : tie.MeasureT-loop
 μ-loop block tokens at t₀ t = tokens - t
+
+-- what the word read in a turn is
+prec-is : (c : tie.After-word4 Inv-loop μ-loop) → c .word4 .result ≡ tokenPrec (now (c .before .before .before .before .before .before .before .args .block)) (c .before .before .loop .t)
+prec-is c =
+    prec-there (now (c .before .before .before .before .before .before .before .args .block)) (c .before .before .loop .t) (c .word4 .ensures .0) (c .before .before .before .before .word2 .ensures .0) (c .before .before .before .word3 .ensures .0)
 
 word-requires : tie.Need-word-requires Inv-loop μ-loop
 word-requires c κs = search needs
@@ -55,7 +61,7 @@ returns : tie.Need-returns Inv-loop μ-loop
 returns c =
     let b = now (c .before .before .before .before .before .before .before .before .before .args .block) in
     let t = c .before .before .before .before .loop .t in
-    let e : c .before .before .word4 .result ≡ tokenPrec b t = cc in
+    let e = prec-is (c .before .before) in
     refused (token-precs-says b) (t, omega arith, refuses (denies-as (c .before .prec-right .ensures ∙ ap goodPrec e) (prec-denies (tokenPrec b t))) (c .if1 .taken))
 
 add-t : tie.Need-add-t Inv-loop μ-loop
@@ -68,7 +74,7 @@ loop-again : tie.Need-loop-again Inv-loop μ-loop
 loop-again c =
     let b = now (c .before .before .before .before .before .before .before .before .before .args .block) in
     let t = c .before .before .before .before .loop .t in
-    let e : c .before .before .word4 .result ≡ tokenPrec b t = cc in
+    let e = prec-is (c .before .before) in
     (omega arith, below-more (λ j. WrongPrec (tokenPrec b j) → ⊥) t (c .before .before .before .before .loop .inv .1) (allows (denies-as (c .before .prec-right .ensures ∙ ap goodPrec e) (prec-denies (tokenPrec b t))) (c .if1 .left)))
 
 returns-2 : tie.Need-returns-2 Inv-loop μ-loop

@@ -1,6 +1,6 @@
 -- `prods::prod_prec` meets its contract. Assumes nothing.
+use mathlib.Core.Path.{refl}
 use native.Mathlib.Omega.{arith}
-use borrow.Author.Needs.{needs}
 use Rattle.block.proofs.Good.{placed}
 use Rattle.block.proofs.prods.prod_prec.Statement.{statement}
 use Rattle.block.proofs.prods.prod_prec.Tie as tie
@@ -21,7 +21,7 @@ shared-slice-read-result : tie.Need-shared-slice-read-result
 shared-slice-read-result c = let w = placed (c .before .pre .good) in omega arith
 
 returns : tie.Need-returns
-returns c = search needs
+returns c = refl
 
 pub prod-prec-spec : {M : Type 1} → statement M
 prod-prec-spec =

@@ -22,7 +22,7 @@ word-requires-6 : tie.Need-word-requires-6
 word-requires-6 c κs = search needs
 
 returns : tie.Need-returns
-returns c = cc
+returns c = rw (c .before .before .before .before .before .word .ensures .0, c .before .before .before .before .word2 .ensures .0, c .before .before .before .word3 .ensures .0, c .before .before .word4 .ensures .0, c .before .word5 .ensures .0, c .word6 .ensures .0)
 
 pub read-sizes-spec : {M : Type 1} → statement M
 read-sizes-spec =

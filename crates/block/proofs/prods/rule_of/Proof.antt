@@ -1,6 +1,5 @@
 -- `prods::rule_of` meets its contract. Assumes nothing.
 use native.Mathlib.Omega.{arith}
-use borrow.Author.Needs.{needs}
 use Rattle.block.proofs.Good.{placed}
 use Rattle.block.proofs.prods.rule_of.Statement.{statement}
 use Rattle.block.proofs.prods.rule_of.Tie as tie
@@ -15,7 +14,7 @@ word-requires : tie.Need-word-requires
 word-requires c κs = let w = placed (c .before .pre .good) in omega arith
 
 returns : tie.Need-returns
-returns c = search needs
+returns c = c .word .ensures .0
 
 pub rule-of-spec : {M : Type 1} → statement M
 rule-of-spec = tie.close (tie.spec mul-word add-word word-requires returns)
