@@ -1,0 +1,13 @@
+pub mod Tokens
+pub mod Clearing
+pub mod Rows
+pub mod Standing
+pub mod Shifts
+pub mod Reduces
+pub mod Stepping
+pub mod Running
+pub mod CallWays
+pub mod OneOutcome
+pub mod Exact
+pub mod Numbers
+pub mod CallSamples

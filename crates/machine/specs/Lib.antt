@@ -1,0 +1,5 @@
+pub mod Limits
+pub mod Memory
+pub mod Moves
+pub mod Call
+pub mod Exactly

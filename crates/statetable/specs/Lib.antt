@@ -1,0 +1,17 @@
+pub mod Limits
+pub mod Cell
+pub mod Named
+pub mod Read
+pub mod Events
+pub mod Verdict
+pub mod Cells
+pub mod Marks
+pub mod Quiet
+pub mod Laid
+pub mod ForFilling
+pub mod ForTables
+pub mod Build
+pub mod BuildSteps
+pub mod Queries
+pub mod Clean
+pub mod BuildRules
