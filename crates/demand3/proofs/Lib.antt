@@ -1,2 +1,3 @@
 pub mod Joined
 pub mod OneEach
+pub mod Computed

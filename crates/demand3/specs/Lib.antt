@@ -1,2 +1,4 @@
 pub mod EndToEnd
 pub mod Unique
+pub mod Starred
+pub mod SampleList
