@@ -3,7 +3,9 @@
 mod block_cases;
 mod itemset_cases;
 mod lines;
+mod machine_cases;
 mod pager_cases;
+mod statetable_cases;
 
 pub use lines::replay;
 
@@ -13,6 +15,12 @@ pub const BLOCKS: u64 = 0;
 pub const BODIES: u64 = 1;
 
 pub const GRAPHS: u64 = 2;
+
+pub const TABLES: u64 = 3;
+
+pub const QUERIES: u64 = 4;
+
+pub const RUNS: u64 = 5;
 
 pub const FIRSTS: u64 = 6;
 

@@ -4,12 +4,18 @@ use crate::BODIES;
 use crate::CLOSURES;
 use crate::FIRSTS;
 use crate::GRAPHS;
+use crate::QUERIES;
 use crate::REFUSALS;
+use crate::RUNS;
+use crate::TABLES;
 use crate::block_cases::block_holds;
 use crate::block_cases::body_holds;
 use crate::block_cases::firsts_hold;
 use crate::itemset_cases::closure_holds;
+use crate::machine_cases::run_holds;
 use crate::pager_cases::graph_holds;
+use crate::statetable_cases::build_holds;
+use crate::statetable_cases::query_holds;
 use words::Line;
 use words::next_line;
 ghost use mathlib.Core.Path.{_≡_};
@@ -39,6 +45,9 @@ fn call_holds(list: u64, words: &[u64]) -> bool {
         BLOCKS => block_holds(words),
         BODIES => body_holds(words),
         GRAPHS => graph_holds(words),
+        TABLES => build_holds(words),
+        QUERIES => query_holds(words),
+        RUNS => run_holds(words),
         FIRSTS => firsts_hold(words),
         CLOSURES => closure_holds(words),
         _ => false,

@@ -16,7 +16,7 @@ ghost use Prim.Native.Nat.{_≤_};
 ghost use lib.ListN.{length};
 
 // Words of each buffer that a case may lend.
-const ROOM: usize = 16384;
+pub const ROOM: usize = 16384;
 
 // Words that the work room is longer than it has to be.
 const MORE: usize = 7;
@@ -29,14 +29,14 @@ struct Given {
 }
 
 // Words of the work room that a graph needs, and clears.
-struct Work {
-    marks: usize,
-    closed: usize,
-    kernel: usize,
+pub struct Work {
+    pub marks: usize,
+    pub closed: usize,
+    pub kernel: usize,
 }
 
 // Of a count that no buffer has room for, only that it is large.
-fn bounded(count: usize) -> usize
+pub fn bounded(count: usize) -> usize
     ensures { λ r. ⌜ r ≤ 16384 ⌝ }
 {
     if ROOM < count {
@@ -46,14 +46,14 @@ fn bounded(count: usize) -> usize
 }
 
 // The words lent where so many are needed.
-fn lent(needed: usize) -> usize
+pub fn lent(needed: usize) -> usize
     ensures { λ r. ⌜ r ≤ 16384 ⌝ }
 {
     bounded(bounded(needed) + MORE)
 }
 
 // A bad block needs none.
-fn work_of(block: &[u32], states: usize) -> Work {
+pub fn work_of(block: &[u32], states: usize) -> Work {
     let marks = 2 * bounded(states);
     let Checked::Good(sizes) = check_block(block) else {
         return Work {
@@ -98,7 +98,7 @@ fn cleared32(room: &[u32], zeros: usize, fill: u32) -> bool {
 }
 
 // Whether the work room was left as the answer of that number leaves it: 1 to 7 leave it as it was.
-fn work_holds(
+pub fn work_holds(
     number: u64,
     work: Work,
     fill: u32,
@@ -115,14 +115,38 @@ fn work_holds(
         && cleared(kernel, work.kernel, wide)
 }
 
-// [items] [spans] [edges]
-fn buffers_hold(expected: &[u64], items: &[u64], spans: &[u32], edges: &[u32]) -> bool {
-    let rest = behind(expected);
-    let last = behind(rest);
-    if behind(last).len() != 0 {
+// Whether the words begin with the buffer, as a part.
+pub fn begins(words: &[u64], buffer: &[u32]) -> bool {
+    if words.len() == 0 {
         return false;
     }
-    same(part(expected), items) && same32(part(rest), spans) && same32(part(last), edges)
+    words[0] == buffer.len() as u64 && same32(part(words), buffer)
+}
+
+// Whether the words begin with the numbers.
+pub fn numbers_begin(words: &[u64], numbers: &[u64]) -> bool {
+    let n = numbers.len();
+    if words.len() < n {
+        return false;
+    }
+    same(&words[..n], numbers)
+}
+
+// [items] [spans] [edges]
+pub fn graph_begins(expected: &[u64], items: &[u64], spans: &[u32], edges: &[u32]) -> bool {
+    if expected.len() == 0 {
+        return false;
+    }
+    let next = behind(expected);
+    expected[0] == items.len() as u64
+        && same(part(expected), items)
+        && begins(next, spans)
+        && begins(behind(next), edges)
+}
+
+// [items] [spans] [edges], and nothing behind them
+fn buffers_hold(expected: &[u64], items: &[u64], spans: &[u32], edges: &[u32]) -> bool {
+    graph_begins(expected, items, spans, edges) && behind(behind(behind(expected))).len() == 0
 }
 
 // number  states items before. Their count is told since lending the array needs it.

@@ -1,4 +1,4 @@
-// Replays the list of refusals, as far as its calls exist.
+// Replays the list of refusals.
 fn main() {
     replay::replay(b"refusals: ", replay::REFUSALS);
 }

@@ -1,0 +1,13 @@
+-- `block_room` has its length: by the law, since counting it out takes too long. Assumes nothing.
+use mathlib.Core.Path.{sym}
+use Prim.Native.Nat.{ℕ}
+use lib.ListN.{length-replicate}
+use Rattle.tables.specs.Rooms.{BLOCK}
+use Rattle.tables.proofs.reading.block_room.Statement.{statement}
+use Rattle.tables.proofs.reading.block_room.Tie as tie
+
+returns : tie.Need-returns
+returns c = sym (length-replicate {0} {A = ℕ} BLOCK 0)
+
+pub block-room-spec : {M : Type 1} → statement M
+block-room-spec = tie.close (tie.spec returns)
