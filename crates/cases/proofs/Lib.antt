@@ -1,0 +1,9 @@
+pub mod Refusals1
+pub mod Refusals2
+pub mod Refusals3
+pub mod Refusals4
+pub mod Runs1
+pub mod Runs2
+pub mod Tables1
+pub mod Tables2
+pub mod Tables3
