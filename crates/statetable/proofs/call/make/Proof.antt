@@ -17,7 +17,7 @@ tabulate-requires c κs =
     let R = c .before .before .before .before .before .before .before .before .before .before .before .before .before .before .before .before .before .before .before .before .before .before .before .before .before .before .before .before .before .before .before .before .before .before .before .before .before .before .before .before .before .before .before .before .before .before .before .pre in
     let g = c .before .before .before .before .before .before .before .before .before .before .before .before .before .before .before .before .before .before .before .before .before .before .before .before .before .graph in
     let k = c .before .before .before .before .before .before .before .before .before .before .before .before .kept-in in
-    (states-made R, for-tabulate R (g .result) _ _ _ _ _ _ (g .ensures .0) (g .ensures .1) _ (ap (λ (x : Kept). x .states) (k .ensures)))
+    (states-made R, for-tabulate R (g .result) (g .last .1 .1 .1 .0) (g .last .1 .1 .1 .1 .0) (g .last .1 .1 .1 .1 .1 .0) (g .last .1 .1 .1 .1 .1 .1 .0) (g .last .1 .1 .1 .1 .1 .1 .1 .0) (g .last .1 .1 .1 .1 .1 .1 .1 .1 .0) (g .ensures .0) (g .ensures .1) (k .result .states) (ap (λ (x : Kept). x .states) (k .ensures)))
 
 answer-requires : tie.Need-answer-requires
 answer-requires c κs = search needs
@@ -70,9 +70,9 @@ returns c =
     let g = c .before .before .before .before .before .before .before .before .before .before .before .before .before .before .before .before .before .before .before .before .before .before .before .before .before .before .before .before .before .before .before .before .before .before .before .before .before .before .before .before .before .before .before .before .before .before .before .before .before .before .before .graph in
     let k = c .before .before .before .before .before .before .before .before .before .before .before .before .before .before .before .before .before .before .before .before .before .before .before .before .before .before .before .before .before .before .before .before .before .before .before .before .before .before .kept-in in
     let t = c .before .before .before .before .before .before .before .before .before .before .before .before .before .before .before .before .before .before .before .before .before .before .before .before .before .tabulate in
-    let T = t .ensures .0 (states-made R) (for-tabulate R (g .result) _ _ _ _ _ _ (g .ensures .0) (g .ensures .1) _ (ap (λ (x : Kept). x .states) (k .ensures))) in (
-      answer-made R (g .result) _ _ _ _ _ _ (g .ensures .0) (g .ensures .1) (t .result) (c .answer .result) (T .tally) (c .answer .ensures),
-      buffers-made R (g .result) _ _ _ _ _ _ (g .ensures .0) (g .ensures .1) (t .result) _ _ _ _ _ _ _ _ _ _ _ _ T (t .ensures .1),
+    let T = t .ensures .0 (states-made R) (for-tabulate R (g .result) (g .last .1 .1 .1 .0) (g .last .1 .1 .1 .1 .0) (g .last .1 .1 .1 .1 .1 .0) (g .last .1 .1 .1 .1 .1 .1 .0) (g .last .1 .1 .1 .1 .1 .1 .1 .0) (g .last .1 .1 .1 .1 .1 .1 .1 .1 .0) (g .ensures .0) (g .ensures .1) (k .result .states) (ap (λ (x : Kept). x .states) (k .ensures))) in (
+      answer-made R (g .result) (g .last .1 .1 .1 .0) (g .last .1 .1 .1 .1 .0) (g .last .1 .1 .1 .1 .1 .0) (g .last .1 .1 .1 .1 .1 .1 .0) (g .last .1 .1 .1 .1 .1 .1 .1 .0) (g .last .1 .1 .1 .1 .1 .1 .1 .1 .0) (g .ensures .0) (g .ensures .1) (t .result) (c .answer .result) (T .tally) (c .answer .ensures),
+      buffers-made R (g .result) (g .last .1 .1 .1 .0) (g .last .1 .1 .1 .1 .0) (g .last .1 .1 .1 .1 .1 .0) (g .last .1 .1 .1 .1 .1 .1 .0) (g .last .1 .1 .1 .1 .1 .1 .1 .0) (g .last .1 .1 .1 .1 .1 .1 .1 .1 .0) (g .ensures .0) (g .ensures .1) (t .result) (t .last .1 .1 .1 .0) (t .last .1 .1 .1 .1 .0) (t .last .1 .1 .1 .1 .1 .0) (t .last .1 .1 .1 .1 .1 .1 .0) (t .last .1 .1 .1 .1 .1 .1 .1 .0) (t .last .1 .1 .1 .1 .1 .1 .1 .1 .0) (t .last .1 .1 .1 .1 .1 .1 .1 .1 .1 .0) (t .last .1 .1 .1 .1 .1 .1 .1 .1 .1 .1 .0) (t .last .1 .1 .1 .1 .1 .1 .1 .1 .1 .1 .1 .0) (t .last .1 .1 .1 .1 .1 .1 .1 .1 .1 .1 .1 .1 .0) (t .last .1 .1 .1 .1 .1 .1 .1 .1 .1 .1 .1 .1 .1 .0) (t .last .1 .1 .1 .1 .1 .1 .1 .1 .1 .1 .1 .1 .1 .1 .0) T (t .ensures .1),
     )
 
 pub make-spec : {M : Type 1} → statement M

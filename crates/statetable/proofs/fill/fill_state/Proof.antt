@@ -1,7 +1,7 @@
 -- `fill::fill_state` meets its contract. Assumes nothing.
 use borrow.Author.Needs.{needs}
 use native.Mathlib.Omega.{arith}
-use mathlib.Core.Path.{sym, ap}
+use mathlib.Core.Path.{sym, ap, _∙_}
 use lib.Seq.{length-take-le}
 use Rattle.block.proofs.Good.{placed}
 use Rattle.statetable.specs.Events.{ofEdges}
@@ -48,23 +48,23 @@ reduces-requires c κs =
 
 -- src/fill.rt:203:9
 same-length : tie.Need-same-length
-same-length c = search needs
+same-length c = c .before .before .before .before .before .before .before .before .before .before .before .before .before .before .before .before .before .before .close .kept .1 .1 .1 .1 .0
 
 -- src/fill.rt:203:9
 same-length-2 : tie.Need-same-length-2
-same-length-2 c = search needs
+same-length-2 c = c .before .before .before .before .before .before .before .before .before .before .reduces .kept .1 .1 .0
 
 -- src/fill.rt:203:9
 same-length-3 : tie.Need-same-length-3
-same-length-3 c = search needs
+same-length-3 c = c .before .before .before .before .before .before .before .before .before .before .reduces .kept .1 .1 .1 .0
 
 -- src/fill.rt:203:9
 same-length-4 : tie.Need-same-length-4
-same-length-4 c = search needs
+same-length-4 c = c .before .before .before .before .before .before .before .before .before .before .reduces .kept .1 .1 .1 .1 .0
 
 -- src/fill.rt:203:9
 same-length-5 : tie.Need-same-length-5
-same-length-5 c = search needs
+same-length-5 c = c .before .before .before .before .before .before .before .before .before .before .reduces .kept .1 .1 .1 .1 .1 .0
 
 -- src/fill.rt:203:9
 returns : tie.Need-returns
@@ -105,19 +105,19 @@ same-length-6 c = c .before .before .before .before .before .before .before .bef
 
 -- src/fill.rt:169:1
 same-length-7 : tie.Need-same-length-7
-same-length-7 c = search needs
+same-length-7 c = c .before .before .before .before .before .before .before .before .shifts .kept .1 .1 .0 ∙ c .before .before .before .before .before .before .before .before .before .before .before .before .before .before .before .before .before .before .before .before .before .before .before .before .reduces .kept .1 .1 .0
 
 -- src/fill.rt:169:1
 same-length-8 : tie.Need-same-length-8
-same-length-8 c = search needs
+same-length-8 c = c .before .before .before .before .before .before .before .before .shifts .kept .1 .1 .1 .0 ∙ c .before .before .before .before .before .before .before .before .before .before .before .before .before .before .before .before .before .before .before .before .before .before .before .before .reduces .kept .1 .1 .1 .0
 
 -- src/fill.rt:169:1
 same-length-9 : tie.Need-same-length-9
-same-length-9 c = search needs
+same-length-9 c = c .before .before .before .before .before .before .before .before .shifts .kept .1 .1 .1 .1 .0 ∙ c .before .before .before .before .before .before .before .before .before .before .before .before .before .before .before .before .before .before .before .before .before .before .before .before .reduces .kept .1 .1 .1 .1 .0
 
 -- src/fill.rt:169:1
 same-length-10 : tie.Need-same-length-10
-same-length-10 c = search needs
+same-length-10 c = c .before .before .before .before .before .before .before .before .shifts .kept .1 .1 .1 .1 .1 .0 ∙ c .before .before .before .before .before .before .before .before .before .before .before .before .before .before .before .before .before .before .before .before .before .before .before .before .reduces .kept .1 .1 .1 .1 .1 .0
 
 -- src/fill.rt:169:1
 returns-2 : tie.Need-returns-2

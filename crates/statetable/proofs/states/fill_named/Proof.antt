@@ -1,8 +1,8 @@
 -- `states::fill_named` meets its contract. Assumes nothing.
 use borrow.Author.Needs.{needs}
-use mathlib.Core.Path.{sym}
+use mathlib.Core.Path.{sym, _∙_}
 use Prim.Native.Nat.{_+_, _*_}
-use lib.Seq.{length-take-le}
+use lib.Seq.{length-take-le, length-front}
 use Rattle.block.specs.Limits.{ITEM}
 use Rattle.statetable.specs.Limits.{RR, SR}
 use Rattle.statetable.proofs.FirstWords.{front-long, rr-long, sr-long, rr-fits, sr-fits}
@@ -117,19 +117,19 @@ zero64-requires c κs =
     front-long (ITEM * (z .result .symbols + z .result .prods)) (a .closed .now) (p .last .1 .1 .1 .1 .1 .1 .1 .0) (closed-in S (z .result) (z .ensures)) (p .kept .1 .1 .1 .1 .1 .1 .1 .0)
 
 same-length : tie.Need-same-length
-same-length c = search needs
+same-length c = c .before .before .zero64 .kept .0 ∙ length-front (c .before .before .before .before .before .before .before .before .before .before .before .before .before .before .before .before .before .before .before .before .before .before .before .before .before .before .before .before .before .before .before .before .before .before .before .before .before .before .before .args .closed .now) (c .before .before .before .before .before .before .before .before .before .before .before .before .before .before .fill-states .last .1 .1 .1 .1 .1 .1 .1 .0) (ITEM * (c .before .before .before .before .before .before .before .before .before .before .before .before .before .before .before .before .before .before .before .before .before .before .before .before .before .before .before .before .before .sizes-of .result .symbols + c .before .before .before .before .before .before .before .before .before .before .before .before .before .before .before .before .before .before .before .before .before .before .before .before .before .before .before .before .before .sizes-of .result .prods)) (c .before .before .before .before .before .before .before .before .before .before .before .before .before .before .fill-states .kept .1 .1 .1 .1 .1 .1 .1 .0)
 
 same-length-2 : tie.Need-same-length-2
-same-length-2 c = search needs
+same-length-2 c = length-front (c .before .before .before .before .before .before .before .before .before .before .before .before .before .before .before .before .before .before .before .before .before .before .before .before .before .before .before .before .before .before .before .before .before .before .before .before .before .before .before .args .actions .now) (c .before .before .before .before .before .before .before .before .before .before .before .before .before .before .fill-states .last .1 .1 .1 .1 .1 .1 .1 .1 .0) (c .before .before .before .before .before .before .before .before .before .before .before .before .before .before .before .before .before .before .before .before .before .before .before .before .before .before .before .before .before .before .before .before .before .before .before .before .before .before .before .args .states * c .before .before .before .before .before .before .before .before .before .before .before .before .before .before .before .before .before .before .before .before .before .before .before .before .before .before .before .before .before .sizes-of .result .tokens) (c .before .before .before .before .before .before .before .before .before .before .before .before .before .before .fill-states .kept .1 .1 .1 .1 .1 .1 .1 .1 .0)
 
 same-length-3 : tie.Need-same-length-3
-same-length-3 c = search needs
+same-length-3 c = length-front (c .before .before .before .before .before .before .before .before .before .before .before .before .before .before .before .before .before .before .before .before .before .before .before .before .before .before .before .before .before .before .before .before .before .before .before .before .before .before .before .args .offered .now) (c .before .before .before .before .before .before .before .before .before .before .before .before .before .before .fill-states .last .1 .1 .1 .1 .1 .1 .1 .1 .1 .0) (c .before .before .before .before .before .before .before .before .before .before .before .before .before .before .before .before .before .before .before .before .before .before .before .before .before .before .before .before .before .before .before .before .before .before .before .before .before .before .before .args .states * c .before .before .before .before .before .before .before .before .before .before .before .before .before .before .before .before .before .before .before .before .before .before .before .before .before .before .before .before .before .sizes-of .result .tokens) (c .before .before .before .before .before .before .before .before .before .before .before .before .before .before .fill-states .kept .1 .1 .1 .1 .1 .1 .1 .1 .1 .0)
 
 same-length-4 : tie.Need-same-length-4
-same-length-4 c = search needs
+same-length-4 c = length-front (c .before .before .before .before .before .before .before .before .before .before .before .before .before .before .before .before .before .before .before .before .before .before .before .before .before .before .before .before .before .before .before .before .before .before .before .before .before .before .before .args .rr .now) (c .before .before .before .before .before .before .before .before .before .before .before .before .before .before .fill-states .last .1 .1 .1 .1 .1 .1 .1 .1 .1 .1 .0) (RR * c .before .before .before .before .before .before .before .before .before .before .before .before .before .before .before .before .before .before .before .before .before .before .before .before .before .before .before .before .before .before .before .before .before .before .before .before .before .before .before .args .caps .rr) (c .before .before .before .before .before .before .before .before .before .before .before .before .before .before .fill-states .kept .1 .1 .1 .1 .1 .1 .1 .1 .1 .1 .0)
 
 same-length-5 : tie.Need-same-length-5
-same-length-5 c = search needs
+same-length-5 c = length-front (c .before .before .before .before .before .before .before .before .before .before .before .before .before .before .before .before .before .before .before .before .before .before .before .before .before .before .before .before .before .before .before .before .before .before .before .before .before .before .before .args .sr .now) (c .before .before .before .before .before .before .before .before .before .before .before .before .before .before .fill-states .last .1 .1 .1 .1 .1 .1 .1 .1 .1 .1 .1 .0) (SR * c .before .before .before .before .before .before .before .before .before .before .before .before .before .before .before .before .before .before .before .before .before .before .before .before .before .before .before .before .before .before .before .before .before .before .before .before .before .before .before .args .caps .sr) (c .before .before .before .before .before .before .before .before .before .before .before .before .before .before .fill-states .kept .1 .1 .1 .1 .1 .1 .1 .1 .1 .1 .1 .0)
 
 returns : tie.Need-returns
 returns c =
