@@ -70,3 +70,5 @@ impl fmt::Display for Refusal {
         write!(f, "{} ({})", self.name(), self.number())
     }
 }
+
+impl std::error::Error for Refusal {}
