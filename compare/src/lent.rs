@@ -1,4 +1,6 @@
 //! The fourteen lent buffers, filled with a pattern before a call; what the oracle says that they hold after it.
+use std::hint::black_box;
+
 use generate::Prng;
 use grammar::Words;
 use timkerzal::lent::{self, GraphOut, TableOut, Work};
@@ -62,6 +64,16 @@ impl Lent {
         lent
     }
 
+    /// Zero in every word of every buffer, by the loop that the library has; who reads them is not known to the compiler.
+    pub fn clear(&mut self) {
+        for buffer in [&mut self.items, &mut self.closed, &mut self.kernel] {
+            zero(buffer);
+        }
+        for buffer in self.words.iter_mut().chain([&mut self.marks]) {
+            zero(buffer);
+        }
+    }
+
     /// All buffers in order, as they stand.
     pub fn all(&self) -> Vec<Vec<u64>> {
         let wide = |words: &Vec<u32>| words.iter().map(|&w| w.into()).collect();
@@ -96,6 +108,15 @@ impl Lent {
         let work = Work { marks: &mut self.marks, closed: &mut self.closed, kernel: &mut self.kernel };
         lent::graph(block, states as usize, items as usize, graph, work)
     }
+}
+
+fn zero<W: From<u8>>(words: &mut [W]) {
+    let mut i = 0;
+    while i < words.len() {
+        words[i] = W::from(0);
+        i += 1;
+    }
+    black_box(words);
 }
 
 /// The oracle's answer in the library's words, and all buffers.

@@ -7,6 +7,8 @@ use trimmed::{build, Limits};
 use crate::sentences::input;
 use crate::{Counts, Difference, Grammars};
 
+const BUILT: &str = "runs on built tables";
+
 #[derive(Clone, Debug)]
 pub struct Run {
     pub block: Vec<u32>,
@@ -36,7 +38,7 @@ pub fn runs(rng: &mut Prng, grammars: &Grammars, counts: &mut Counts) -> Result<
     for _ in 0..2 {
         let mut run = Run { input: input(rng, &built.block, built.tables()), ..built.clone() };
         bounded(rng, &mut run);
-        compare(rng, &run, "runs on built tables", counts)?;
+        compare(rng, &run, BUILT, counts)?;
     }
     for _ in 0..2 {
         let mut run = built.clone();
@@ -150,6 +152,9 @@ pub fn compare(rng: &mut Prng, run: &Run, kind: &'static str, counts: &mut Count
         Answer::Refused(number) => (number.to_string(), number, end.run.at),
     };
     counts.add(kind, name);
+    if kind == BUILT && counts.show == Some(number) {
+        counts.shown.push(format!("{run:?} ended at {:?}", end.run));
+    }
     let [k, height] = [end.run.reductions, end.run.height].map(|n| n as u64);
     let told = [number, u64::from(end.answer == Answer::Accept), place as u64, k, end.run.steps, height];
     if (answer, &stack, &output) == (told, &stack_told, &output_told) {

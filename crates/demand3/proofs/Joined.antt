@@ -1,12 +1,10 @@
 -- DEMAND 3 of the calls `build` and `run`: a clean build's tables are those of a checked automaton, and on these `run` accepts exactly what is derivable.
 -- Assumes nothing.
-use mathlib.Core.Bool.{Bool, true, false, _||_, cond, true≢false}
-use mathlib.Core.List.{List, _∷_}
+use mathlib.Core.Bool.{Bool, true, false, cond}
+use mathlib.Core.List.{List}
 use mathlib.Core.Path.{_≡_, refl, sym, ap, subst, _∙_}
-use Prim.Native.Nat.{ℕ, zero, suc, _+_, _*_, _≤_, _<_}
+use Prim.Native.Nat.{ℕ, zero, suc, _+_, _*_, _<_}
 use native.Mathlib.Omega.{arith}
-use borrow.Author.Tests.{ltb-false}
-use lib.Dec.{ltb}
 use lib.ListN.{length}
 use Rattle.knuth.specs.Tables.{Agree}
 use Rattle.knuth.specs.Automaton.{tables}
@@ -21,7 +19,7 @@ use Rattle.pager.specs.Lists.{Answer, is, refused}
 use Rattle.pager.specs.Held.{STATES}
 use Rattle.pager.specs.Graph.{graphOf}
 use Rattle.pager.specs.Given.{Given}
-use Rattle.pager.specs.Call.{someLess, orElse}
+use Rattle.pager.specs.Call.{orElse}
 use Rattle.pager.specs.Automaton.{target}
 use Rattle.statetable.specs.Cell.{decode}
 use Rattle.statetable.specs.Read.{tablesIn}
@@ -34,18 +32,10 @@ use Rattle.machine.specs.Limits.{INPUT, STEPS}
 use Rattle.machine.specs.Call.{Call, isShort, roomShort, turnedAway}
 use Rattle.machine.specs.Exactly.{Roomy, Exactly}
 use Rattle.machine.proofs.Exact.{exactly}
+use Rattle.pager.proofs.CallLaws.{at-least}
 use Rattle.demand3.specs.EndToEnd.{OnTables, Enough, Unambiguous, ClaimDemand3}
 
 -- ---- a call of `run` that is not turned away has its numbers in range and its tables long enough
--- a test that failed, and the rest of the row
-at-least : (n m : ℕ) (ps : List (ℕ × ℕ)) → someLess ((n, m) ∷ ps) ≡ false → (m ≤ n) × (someLess ps ≡ false)
-unfolding someLess
-at-least n m ps e = go (ltb n m) refl e
-  where
-    go : (x : Bool) → ltb n m ≡ x → (x || someLess ps) ≡ false → (m ≤ n) × (someLess ps ≡ false)
-    go true q f = absurd (true≢false f)
-    go false q f = (ltb-false n m q, f)
-
 not-short : (r : ℕ) (x : Bool) → orElse r (cond x 7 0) ≡ 0 → x ≡ false
 not-short zero true e = absurd (omega arith)
 not-short zero false e = refl

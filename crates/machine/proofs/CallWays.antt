@@ -1,26 +1,25 @@
 -- The ways out of the call `run`: 1 to 6, 7, 13, and the run. Assumes nothing.
-use mathlib.Core.Bool.{Bool, true, false, _||_, cond, true≢false}
+use mathlib.Core.Bool.{Bool, true, false, cond}
 use mathlib.Core.List.{List, [], _∷_, _++_, append-nil}
 use mathlib.Core.Option.{Option, none, some}
 use mathlib.Core.Path.{_≡_, refl, sym, ap, _∙_}
 use Prim.Native.Nat.{ℕ, zero, suc, _*_, _-_, _≤_, _<_}
 use native.Mathlib.Omega.{arith}
-use borrow.Author.Tests.{ltb-false}
-use lib.Dec.{ltb}
 use lib.ListN.{length, drop, replicate}
 use lib.Seq.{drop-length}
 use Rattle.knuth.specs.Limits.{Ended, ended, machine}
 use Rattle.block.specs.Block.{tokens, rules}
 use Rattle.block.specs.Grammar.{grammarOf}
 use Rattle.block.specs.Refusal.{refusalOf}
-use Rattle.pager.specs.Lists.{find, Answer, is, refused}
+use Rattle.pager.specs.Lists.{find, Answer, is, refused, unless}
 use Rattle.pager.specs.Held.{STATES, foundOr}
-use Rattle.pager.specs.Call.{someLess, orElse}
+use Rattle.pager.specs.Call.{orElse}
 use Rattle.pager.proofs.ByIndex.{found-below, found-nowhere}
 use Rattle.statetable.specs.Read.{tablesIn}
+use Rattle.pager.proofs.CallLaws.{at-least}
 use Rattle.machine.specs.Limits.{INPUT, STEPS}
 use Rattle.machine.specs.Memory.{cleared, slots}
-use Rattle.machine.specs.Call.{Call, called, roomShort, isShort, turnedAway, badToken, machineOf, unlessBad, unless, runCall, Verdict, told, stackOf, outputOf, Begun}
+use Rattle.machine.specs.Call.{Call, called, roomShort, isShort, turnedAway, badToken, machineOf, unlessBad, runCall, Verdict, told, stackOf, outputOf, Begun}
 use Rattle.machine.specs.declared.answers.Run.{Run}
 use Rattle.machine.proofs.Tokens.{passed}
 
@@ -67,15 +66,6 @@ module _ (a : Call) where
 
         pub ran : runCall a ≡ machineOf a
         ran = searched none clean
-
--- a test that failed, and the rest of the row
-at-least : (n m : ℕ) (ps : List (ℕ × ℕ)) → someLess ((n, m) ∷ ps) ≡ false → (m ≤ n) × (someLess ps ≡ false)
-unfolding someLess
-at-least n m ps e = go (ltb n m) refl e
-  where
-    go : (x : Bool) → ltb n m ≡ x → (x || someLess ps) ≡ false → (m ≤ n) × (someLess ps ≡ false)
-    go true q f = absurd (true≢false f)
-    go false q f = (ltb-false n m q, f)
 
 pub cleared-all : (xs : List ℕ) (n : ℕ) → n ≡ length xs → cleared 0 n xs ≡ replicate n 0
 cleared-all xs n e =

@@ -24,10 +24,10 @@ use Rattle.block.specs.Grammar.{grammarOf}
 use Rattle.block.specs.Refusal.{Good}
 use Rattle.block.specs.Answer.{sizesOf}
 use Rattle.block.proofs.Valid.{good-valid}
-use Rattle.pager.specs.Lists.{find, Answer, is, refused}
+use Rattle.pager.specs.Lists.{find, Answer, is, refused, unless}
 use Rattle.statetable.specs.Read.{tablesIn}
 use Rattle.machine.specs.Moves.{lent}
-use Rattle.machine.specs.Call.{Call, roomShort, turnedAway, badToken, machineOf, unlessBad, unless, runCall}
+use Rattle.machine.specs.Call.{Call, roomShort, turnedAway, badToken, machineOf, unlessBad, runCall}
 use Rattle.machine.specs.Exactly.{Roomy, ClaimExactly, ClaimSteps}
 use Rattle.pager.proofs.CallLaws as tests
 use Rattle.pager.proofs.ByIndex.{find-nowhere}

@@ -9,10 +9,10 @@ use native.Mathlib.Omega.{arith}
 use lib.ListN.{length}
 use Rattle.knuth.specs.Limits.{Ended}
 use Rattle.block.specs.Refusal.{refusalOf}
-use Rattle.pager.specs.Lists.{find, Answer, is, refused}
+use Rattle.pager.specs.Lists.{find, Answer, is, refused, unless}
 use Rattle.pager.specs.Call.{orElse}
 use Rattle.pager.proofs.Refusals.{refusal-most}
-use Rattle.machine.specs.Call.{Call, isShort, turnedAway, badToken, machineOf, unlessBad, unless, runCall}
+use Rattle.machine.specs.Call.{Call, isShort, turnedAway, badToken, machineOf, unlessBad, runCall}
 use Rattle.machine.specs.Exactly.{ClaimNumbers}
 
 abbrev Numbered : Call → Answer Ended → Type 0

@@ -3,7 +3,7 @@ use mathlib.Core.Bool.{Bool, _||_, cond}
 use mathlib.Core.List.{List, [], _∷_}
 use mathlib.Core.Option.{Option, none, some}
 use mathlib.Core.Path.{_≡_}
-use Prim.Native.Nat.{ℕ, zero, suc, _*_, _≤_}
+use Prim.Native.Nat.{ℕ, _*_, _≤_}
 use lib.Dec.{leb, eqb}
 use lib.ListN.{length, replicate}
 use Rattle.knuth.specs.Machine.{Input}
@@ -11,7 +11,7 @@ use Rattle.knuth.specs.Limits.{Why, Ended, ended, machine}
 use Rattle.block.specs.Block.{tokens, rules, endToken}
 use Rattle.block.specs.Grammar.{grammarOf}
 use Rattle.block.specs.Refusal.{refusalOf, Good}
-use Rattle.pager.specs.Lists.{find, Answer, is, refused}
+use Rattle.pager.specs.Lists.{find, Answer, is, refused, unless}
 use Rattle.pager.specs.Held.{STATES}
 use Rattle.pager.specs.Call.{someLess, orElse}
 use Rattle.statetable.specs.Read.{tablesIn}
@@ -69,10 +69,6 @@ machineOf a =
 abbrev pub unlessBad : Option ℕ → Answer Ended → Answer Ended
 unlessBad (some i) e = refused (13 ∷ i ∷ [])
 unlessBad none e = e
-
-abbrev pub unless : ℕ → Answer Ended → Answer Ended
-unless zero e = e
-unless (suc n) e = refused (suc n ∷ [])
 
 -- 1 to 7, then 13 over the whole input, then the run
 unfoldable pub runCall : Call → Answer Ended

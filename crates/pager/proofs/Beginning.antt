@@ -24,7 +24,7 @@ use Rattle.pager.proofs.Growing.{growing-start}
 use Rattle.pager.proofs.Padded.{pad-one, pad-put, pad-zeros}
 
 -- ---- nothing, padded
-pad-none : (n : ℕ) → replicate n 0 ≡ pad n []
+pub pad-none : (n : ℕ) → replicate n 0 ≡ pad n []
 unfolding pad
 pad-none n = ap (λ (k : ℕ). replicate k 0) (minus-zero n)
   where

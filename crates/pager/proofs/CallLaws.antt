@@ -16,12 +16,12 @@ use Rattle.block.specs.First.{firstsOf}
 use Rattle.block.specs.Answer.{sizesOf}
 use Rattle.block.specs.declared.check.Sizes.{Sizes}
 use Rattle.block.proofs.Good.{placed}
-use Rattle.pager.specs.Lists.{refused}
+use Rattle.pager.specs.Lists.{refused, unless, unchanged}
 use Rattle.pager.specs.Place.{State, Limits}
 use Rattle.pager.specs.Graph.{graphOf}
 use Rattle.pager.specs.Memory.{pad, itemWords, spansFrom, edgeWords, markWords}
 use Rattle.pager.specs.Held.{STATES, ITEMS, Behind, Held, limitsOf}
-use Rattle.pager.specs.Call.{Buffers, lent, itemPart, spanPart, edgePart, markPart, closedPart, kernelPart, someLess, roomShort, isShort, orElse, turnedAway, unless, graphCall, written, unchanged, leaves, zeroed}
+use Rattle.pager.specs.Call.{Buffers, lent, itemPart, spanPart, edgePart, markPart, closedPart, kernelPart, someLess, roomShort, isShort, orElse, turnedAway, graphCall, written, leaves, zeroed}
 use Rattle.pager.specs.CallSteps.{Roomy}
 use Rattle.pager.specs.declared.room.Room.{Room}
 use Rattle.pager.proofs.Padded.{length-pad, pad-long}
@@ -46,7 +46,7 @@ module _ (a n : ℕ) (ps : List (ℕ × ℕ)) where
   next r h e = rw (le-ltb a n h) e
 
   -- a test that failed, and the rest of the row
-  at-least : someLess ((a, n) ∷ ps) ≡ false → (n ≤ a) × (someLess ps ≡ false)
+  pub at-least : someLess ((a, n) ∷ ps) ≡ false → (n ≤ a) × (someLess ps ≡ false)
   unfolding someLess
   at-least e = go (ltb a n) refl e
     where

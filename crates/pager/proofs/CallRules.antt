@@ -10,13 +10,13 @@ use Rattle.block.specs.First.{firstsOf}
 use Rattle.block.proofs.Good.{placed}
 use Rattle.block.proofs.Valid.{good-valid}
 use Rattle.itemset.proofs.GoodReady.{good-ready}
-use Rattle.pager.specs.Lists.{Answer, is, refused}
+use Rattle.pager.specs.Lists.{Answer, is, refused, unless}
 use Rattle.pager.specs.Place.{Limits}
 use Rattle.pager.specs.Graph.{graphOf}
 use Rattle.pager.specs.Given.{Given}
 use Rattle.pager.specs.Rules3to5.{Usable}
 use Rattle.pager.specs.Rules3to7.{Rules3to7}
-use Rattle.pager.specs.Call.{Buffers, isShort, orElse, turnedAway, unless, graphCall, answerOf}
+use Rattle.pager.specs.Call.{Buffers, isShort, orElse, turnedAway, graphCall, answerOf}
 use Rattle.pager.specs.CallSteps.{Roomy}
 use Rattle.pager.specs.CallRules.{ClaimCall, ClaimWork, ClaimOne}
 use Rattle.pager.specs.declared.call.Kept.{Kept}

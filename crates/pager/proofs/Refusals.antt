@@ -14,10 +14,10 @@ use Rattle.block.specs.Refusal.{shortBlock, tooLarge, misplaced, badProduction,
 use Rattle.itemset.specs.Rows.{Row}
 use Rattle.itemset.specs.Close.{closeOf}
 use Rattle.itemset.specs.Goto.{gotosOf}
-use Rattle.pager.specs.Lists.{find, Answer, is, refused, walk}
+use Rattle.pager.specs.Lists.{find, Answer, is, refused, walk, unless}
 use Rattle.pager.specs.Place.{State, Limits, items, new, takeIn, isEqual, isWeak, addState, placeOf}
 use Rattle.pager.specs.Graph.{edgeTo, mark, placeEdge, nowhere, closeState, nextState, grow, graphOf, startState}
-use Rattle.pager.specs.Call.{Buffers, isShort, orElse, turnedAway, unless, graphCall}
+use Rattle.pager.specs.Call.{Buffers, isShort, orElse, turnedAway, graphCall}
 use Rattle.pager.specs.CallRules.{Number, ClaimNumbers}
 
 -- a refusal has a number from lo to hi

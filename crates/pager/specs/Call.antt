@@ -8,7 +8,7 @@ use Rattle.block.specs.Limits.{ITEM}
 use Rattle.block.specs.Block.{tokens, rules, prods, symbols}
 use Rattle.block.specs.Refusal.{refusalOf}
 use Rattle.block.specs.First.{firstsOf}
-use Rattle.pager.specs.Lists.{Answer, is, refused}
+use Rattle.pager.specs.Lists.{Answer, is, refused, unless, unchanged}
 use Rattle.pager.specs.Place.{State, Limits, items}
 use Rattle.pager.specs.Graph.{graphOf}
 use Rattle.pager.specs.Collect.{collectOf}
@@ -89,10 +89,6 @@ unfoldable pub turnedAway : List ℕ → Limits → Buffers → ℕ
 turnedAway b m l = orElse (refusalOf b) (cond (isShort b m l) 7 0)
 
 -- ---- the states made, all of them before collection; or a refusal, 1 to 7 as above, then 8 or 9 as rule 5 meets them
-abbrev pub unless : ℕ → Answer (List State) → Answer (List State)
-unless zero a = a
-unless (suc n) a = refused (suc n ∷ [])
-
 unfoldable pub graphCall : List ℕ → Limits → Buffers → Answer (List State)
 graphCall b m l = unless (turnedAway b m l) (graphOf b (firstsOf b) m)
 
@@ -131,9 +127,5 @@ written a b m l =
     }
 
 -- 1 to 7 change nothing
-abbrev pub unchanged : ℕ → Buffers → Buffers → Buffers
-unchanged zero before after = after
-unchanged (suc n) before after = before
-
 unfoldable pub leaves : List ℕ → Limits → Buffers → Buffers
 leaves b m l = unchanged (turnedAway b m l) l (written (graphOf b (firstsOf b) m) b m l)

@@ -2,7 +2,7 @@
 use mathlib.Core.Bool.{Bool, true, false, _&&_}
 use mathlib.Core.List.{List, [], _∷_, _++_}
 use mathlib.Core.Option.{Option, none, some}
-use Prim.Native.Nat.{ℕ, suc}
+use Prim.Native.Nat.{ℕ, zero, suc}
 
 module _ {A : Type 0} where
   unfoldable pub all : (A → Bool) → List A → Bool
@@ -35,3 +35,14 @@ module _ {A B : Type 0} where
   unfoldable pub walk : (A → B → Answer A) → A → List B → Answer A
   walk f a [] = is a
   walk f a (x ∷ xs) = elim (f a x) [ is a′ ↦ walk f a′ xs | refused n ↦ refused n ]
+
+module _ {A : Type 0} where
+  -- the answer, unless a refusal of a number above 0 comes before it
+  abbrev pub unless : ℕ → Answer A → Answer A
+  unless zero a = a
+  unless (suc n) a = refused (suc n ∷ [])
+
+  -- what is left, where such a refusal changes nothing
+  abbrev pub unchanged : ℕ → A → A → A
+  unchanged zero before after = after
+  unchanged (suc n) before after = before

@@ -23,10 +23,10 @@ pub fn zero64(words: &mut [u64], n: usize)
     requires { ⌜ n ≤ length (now words) ⌝ }
     ensures { λ r. ⌜ now (words .exit) ≡ zeroed n (now (words .entry)) ⌝ }
 {
-    let mut i = 0usize;
-    while i < n {
-        words[i] = 0;
-        i += 1;
+    let mut k = 0usize;
+    while k < n {
+        words[k] = 0;
+        k += 1;
     }
 }
 

@@ -16,12 +16,12 @@ use Rattle.block.specs.Refusal.{refusalOf, Good}
 use Rattle.block.specs.Answer.{sizesOf}
 use Rattle.block.specs.declared.check.Sizes.{Sizes}
 use Rattle.block.proofs.Good.{placed}
-use Rattle.pager.specs.Lists.{Answer, is, refused}
+use Rattle.pager.specs.Lists.{Answer, is, refused, unless}
 use Rattle.pager.specs.Held.{STATES}
 use Rattle.pager.proofs.CallLaws.{here, past, next, last}
 use Rattle.statetable.specs.Cell.{decode}
 use Rattle.statetable.specs.Named.{actionOf}
-use Rattle.statetable.specs.Queries.{tableShort, tableWord, unlessBad, queryOf, columnOf, foundOf, decoded}
+use Rattle.statetable.specs.Queries.{tableShort, tableWord, queryOf, columnOf, foundOf, decoded}
 use Rattle.statetable.specs.declared.cell.Action.{Action}
 use Rattle.statetable.specs.declared.queries.Found.{Found}
 use Rattle.statetable.specs.declared.queries.Found.the-variants.{Word, Refused}
@@ -72,13 +72,13 @@ module _ (b : List ℕ) (states : ℕ) (table : List ℕ) (width s i : ℕ) wher
   pub query-bad : (n : ℕ) → n ≡ refusalOf b → (n ≡ 0 → ⊥) → refused (n ∷ []) ≡ queryOf b states table width s i
   unfolding queryOf
   query-bad zero e d = absurd (d refl)
-  query-bad (suc n) e d = ap (λ (k : ℕ). unlessBad k (tableWord states table width s i)) e
+  query-bad (suc n) e d = ap (λ (k : ℕ). unless k (tableWord states table width s i)) e
 
   pub query-is : (found : Answer ℕ) (w j : ℕ) → found ≡ tableWord states table w s j → w ≡ width → j ≡ i → (n : ℕ) → n ≡ refusalOf b → n ≡ 0
       → found ≡ queryOf b states table width s i
   unfolding queryOf
   query-is found w j e p q n h z =
-      e ∙ ap₂ (λ (w j : ℕ). tableWord states table w s j) p q ∙ ap (λ (k : ℕ). unlessBad k (tableWord states table width s i)) (sym z ∙ h)
+      e ∙ ap₂ (λ (w j : ℕ). tableWord states table w s j) p q ∙ ap (λ (k : ℕ). unless k (tableWord states table width s i)) (sym z ∙ h)
 
 -- the sizes of a block that is not refused
 module _ (b : List ℕ) (n : ℕ) (h : n ≡ refusalOf b) (k : n ≡ 0) (z : Sizes) (e : z ≡ sizesOf b) where

@@ -1,35 +1,24 @@
 -- The ways out of the call `build`, and the rooms of a call that is not turned away. Assumes nothing.
-use mathlib.Core.Bool.{Bool, true, false, _||_, cond, true≢false}
+use mathlib.Core.Bool.{Bool, true, false, _||_, cond}
 use mathlib.Core.List.{List, [], _∷_}
 use mathlib.Core.Path.{_≡_, refl, sym, ap, _∙_}
 use Prim.Native.Nat.{ℕ, zero, suc, _*_, _≤_}
 use native.Mathlib.Omega.{arith}
-use borrow.Author.Tests.{ltb-false}
-use lib.Dec.{ltb}
 use lib.ListN.{length}
 use Rattle.block.specs.Block.{tokens, rules, prods}
 use Rattle.block.specs.Refusal.{refusalOf}
-use Rattle.pager.specs.Lists.{refused}
+use Rattle.pager.specs.Lists.{refused, unless, unchanged}
 use Rattle.pager.specs.Held.{STATES}
 use Rattle.pager.specs.Call as graph
-use Rattle.pager.specs.Call.{someLess, orElse}
+use Rattle.pager.specs.Call.{orElse}
 use Rattle.pager.specs.CallSteps as steps
-use Rattle.pager.proofs.CallLaws.{roomy}
+use Rattle.pager.proofs.CallLaws.{roomy, at-least}
 use Rattle.statetable.specs.Limits.{RECORDS, RR, SR}
-use Rattle.statetable.specs.Build.{Buffers, limitsOf, tablesShort, isShort, turnedAway, buildOf, unless, buildCall, written, unchanged, leaves}
+use Rattle.statetable.specs.Build.{Buffers, limitsOf, tablesShort, isShort, turnedAway, buildOf, buildCall, written, leaves}
 use Rattle.statetable.specs.BuildSteps.{Roomy}
 use Rattle.statetable.specs.declared.call.Named.{Named}
 
 -- ---- the rooms of tables, marks and lists
--- a test that failed, and the rest of the row
-at-least : (a n : ℕ) (ps : List (ℕ × ℕ)) → someLess ((a, n) ∷ ps) ≡ false → (n ≤ a) × (someLess ps ≡ false)
-unfolding someLess
-at-least a n ps e = go (ltb a n) refl e
-  where
-    go : (x : Bool) → ltb a n ≡ x → (x || someLess ps) ≡ false → (n ≤ a) × (someLess ps ≡ false)
-    go true q f = absurd (true≢false f)
-    go false q f = (ltb-false a n q, f)
-
 -- every table, mark and list has the room that the named sizes need
 pub record Tables (b : List ℕ) (n : Named) (l : Buffers) : Type 0 where
   pub rr-fair : n .rr ≤ RECORDS

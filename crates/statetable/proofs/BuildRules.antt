@@ -11,7 +11,7 @@ use Rattle.knuth.specs.Tables.{Action}
 use Rattle.block.specs.Block.{tokenPrec, endToken, startProd}
 use Rattle.block.specs.Refusal.{refusalOf}
 use Rattle.block.specs.First.{Ahead, firstsOf}
-use Rattle.pager.specs.Lists.{Answer, is, refused, walk}
+use Rattle.pager.specs.Lists.{Answer, is, refused, walk, unless}
 use Rattle.pager.specs.Place.{State}
 use Rattle.pager.specs.Graph.{graphOf}
 use Rattle.pager.specs.Collect.{collectOf}
@@ -23,7 +23,7 @@ use Rattle.statetable.specs.Cell.{encode, decode}
 use Rattle.statetable.specs.Events.{Event, completes, leads, eventsOf}
 use Rattle.statetable.specs.Verdict.{Verdict, writes, two-reduces, unsettled, settled, stops, precedenceOf, onReduce, byKind, resolve, onShift}
 use Rattle.statetable.specs.Cells.{reduce-reduce, shift-reduce, Fill, write, offer, tell, withRR, withSR, settle, fill, fresh, fillState, Rows, added, fillNext, noRows, cellsOf}
-use Rattle.statetable.specs.Build.{Buffers, limitsOf, capsOf, isShort, turnedAway, withRows, thenTables, buildOf, unless, buildCall, answerOf}
+use Rattle.statetable.specs.Build.{Buffers, limitsOf, capsOf, isShort, turnedAway, withRows, thenTables, buildOf, buildCall, answerOf}
 use Rattle.statetable.specs.BuildRules.{Numbered, ClaimNumbers, ClaimOne}
 use Rattle.statetable.specs.declared.records.Caps.{Caps}
 use Rattle.statetable.specs.declared.call.Named.{Named}

@@ -12,7 +12,7 @@ use Rattle.block.specs.Block.{tokens, rules}
 use Rattle.block.specs.Refusal.{refusalOf}
 use Rattle.block.specs.Grammar.{grammarOf}
 use Rattle.block.specs.First.{firstsOf}
-use Rattle.pager.specs.Lists.{Answer, is, refused}
+use Rattle.pager.specs.Lists.{Answer, is, refused, unless, unchanged}
 use Rattle.pager.specs.Place.{State}
 use Rattle.pager.specs.Graph.{graphOf}
 use Rattle.pager.specs.Collect.{collectOf}
@@ -29,7 +29,7 @@ use Rattle.pager.proofs.Collected.{rules-3-to-7}
 use Rattle.statetable.specs.Cell.{decode}
 use Rattle.statetable.specs.Cells.{Rows, cellsOf}
 use Rattle.statetable.specs.Quiet.{Silent, Quiet, actionsOf, gotosOf}
-use Rattle.statetable.specs.Build.{Buffers, limitsOf, capsOf, turnedAway, Built, withRows, thenTables, buildOf, unless, buildCall, countsOf, written, unchanged, leaves}
+use Rattle.statetable.specs.Build.{Buffers, limitsOf, capsOf, turnedAway, Built, withRows, thenTables, buildOf, buildCall, countsOf, written, leaves}
 use Rattle.statetable.specs.Clean.{Clean, EndsClean, ClaimClean, CheckedTables, ClaimChecked}
 use Rattle.statetable.specs.declared.call.Named.{Named}
 use Rattle.statetable.proofs.Checked.{checked, quiet-canonical}

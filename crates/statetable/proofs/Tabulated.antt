@@ -10,6 +10,7 @@ use Rattle.pager.specs.Lists.{each, Answer, is, refused}
 use Rattle.pager.specs.Place.{State}
 use Rattle.pager.specs.Memory.{pad, edgeWords}
 use Rattle.pager.specs.Call.{itemPart, spanPart, edgePart, zeroed}
+use Rattle.pager.proofs.Beginning.{pad-none}
 use Rattle.statetable.specs.Cells.{Rows}
 use Rattle.statetable.specs.ForTables.{flat, TableRows, ForTables, TallyBy, TablesFilled, ForDerived, Derived}
 use Rattle.statetable.specs.Build.{limitsOf, capsOf}
@@ -39,16 +40,9 @@ none-filled h (inl w) = absurd (let e = w .0 in omega arith)
 none-filled h (inr w) = w .1
 
 -- ---- lists
-minus-zero : (n : ℕ) → n - 0 ≡ n
-minus-zero n = omega arith
-
-pad-none : (n : ℕ) → pad n [] ≡ replicate n 0
-unfolding pad
-pad-none n = ap (λ (k : ℕ). replicate k 0) (minus-zero n)
-
 -- nothing, and what stood behind
 none-left : (n : ℕ) (before after : List ℕ) → after ≡ pad n [] ++ drop n before → after ≡ zeroed n before
-none-left n before after e = e ∙ ap (λ (t : List ℕ). t ++ drop n before) (pad-none n)
+none-left n before after e = e ∙ ap (λ (t : List ℕ). t ++ drop n before) (sym (pad-none n))
 
 pad-behind : (n : ℕ) (ws z : List ℕ) → pad n ws ++ z ≡ ws ++ (replicate (n - length ws) 0 ++ z)
 unfolding pad

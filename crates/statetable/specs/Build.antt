@@ -1,12 +1,12 @@
 -- The call `build`: when it refuses, what it answers, and what each lent buffer holds then. Assumes nothing.
 use mathlib.Core.Bool.{Bool, _||_, cond}
 use mathlib.Core.List.{List, [], _∷_, map}
-use Prim.Native.Nat.{ℕ, zero, suc, _*_}
+use Prim.Native.Nat.{ℕ, suc, _*_}
 use lib.ListN.{length}
 use Rattle.block.specs.Block.{tokens, rules, prods}
 use Rattle.block.specs.Refusal.{refusalOf}
 use Rattle.block.specs.First.{firstsOf}
-use Rattle.pager.specs.Lists.{each, Answer, is, refused}
+use Rattle.pager.specs.Lists.{each, Answer, is, refused, unless, unchanged}
 use Rattle.pager.specs.Place.{State, Limits, items}
 use Rattle.pager.specs.Graph.{graphOf}
 use Rattle.pager.specs.Collect.{collectOf}
@@ -90,10 +90,6 @@ thenTables b m (refused why) = refused why
 unfoldable pub buildOf : List ℕ → Named → Answer Built
 buildOf b n = thenTables b (capsOf n) (graphOf b (firstsOf b) (limitsOf n))
 
-abbrev pub unless : ℕ → Answer Built → Answer Built
-unless zero a = a
-unless (suc n) a = refused (suc n ∷ [])
-
 unfoldable pub buildCall : List ℕ → Named → Buffers → Answer Built
 buildCall b n l = unless (turnedAway b n l) (buildOf b n)
 
@@ -148,9 +144,5 @@ written a b n l =
     }
 
 -- 1 to 7 change nothing
-abbrev pub unchanged : ℕ → Buffers → Buffers → Buffers
-unchanged zero before after = after
-unchanged (suc n) before after = before
-
 unfoldable pub leaves : List ℕ → Named → Buffers → Buffers
 leaves b n l = unchanged (turnedAway b n l) l (written (buildOf b n) b n l)

@@ -1,13 +1,13 @@
 -- The queries of lent tables: a word of a row, or why there is none. Assumes nothing.
 use mathlib.Core.Bool.{Bool, _&&_, cond}
 use mathlib.Core.List.{List, [], _∷_}
-use Prim.Native.Nat.{ℕ, zero, suc, _+_, _*_, _%_, _/_}
+use Prim.Native.Nat.{ℕ, _+_, _*_, _%_, _/_}
 use lib.Dec.{ltb, eqb}
 use lib.ListN.{length, getD}
 use Rattle.knuth.specs.Tables as theory
 use Rattle.block.specs.Block.{tokens, rules}
 use Rattle.block.specs.Refusal.{refusalOf}
-use Rattle.pager.specs.Lists.{Answer, is, refused}
+use Rattle.pager.specs.Lists.{Answer, is, refused, unless}
 use Rattle.pager.specs.Held.{STATES}
 use Rattle.pager.specs.Call.{someLess}
 use Rattle.statetable.specs.Cell.{decode}
@@ -27,12 +27,8 @@ tableWord states table width s i =
     (cond (ltb s states && ltb i width) (is (getD table (s * width + i) 0)) (refused (18 ∷ [])))
 
 -- 1 to 6 before that
-abbrev pub unlessBad : ℕ → Answer ℕ → Answer ℕ
-unlessBad zero a = a
-unlessBad (suc n) a = refused (suc n ∷ [])
-
 unfoldable pub queryOf : List ℕ → (states : ℕ) → List ℕ → (width s i : ℕ) → Answer ℕ
-queryOf b states table width s i = unlessBad (refusalOf b) (tableWord states table width s i)
+queryOf b states table width s i = unless (refusalOf b) (tableWord states table width s i)
 
 -- the column of a symbol among the edges, rules before tokens; past the last for no symbol
 unfoldable pub columnOf : List ℕ → ℕ → ℕ

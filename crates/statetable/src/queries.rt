@@ -73,10 +73,10 @@ pub fn offered(block: &[u32], states: usize, marks: &[u32], s: usize, t: usize) 
 }
 
 // The shift mark of state s at token t.
-pub fn shift_mark(block: &[u32], states: usize, marks: &[u32], s: usize, t: usize) -> Found
-    ensures { λ r. ⌜ foundOf r ≡ queryOf (now (block .entry)) states (now (marks .entry)) (tokens (now (block .entry))) s t ⌝ }
+pub fn shift_mark(block: &[u32], states: usize, shifts: &[u32], s: usize, t: usize) -> Found
+    ensures { λ r. ⌜ foundOf r ≡ queryOf (now (block .entry)) states (now (shifts .entry)) (tokens (now (block .entry))) s t ⌝ }
 {
-    by_token(block, states, marks, s, t)
+    by_token(block, states, shifts, s, t)
 }
 
 // The action of state s at token t.

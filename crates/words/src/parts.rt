@@ -37,11 +37,11 @@ pub fn part(words: &[u64]) -> &[u64]
 pub fn behind(words: &[u64]) -> &[u64]
     ensures { λ r. ⌜ now r ≡ behindOf (now (words .entry)) ⌝ }
 {
-    let end = part_end(words);
-    if end == 0 {
+    let from = part_end(words);
+    if from == 0 {
         return &words[..0];
     }
-    &words[end..]
+    &words[from..]
 }
 
 // Puts the words into the first slots, up to the first that is no u32 word or has no slot. Answers how many.

@@ -1,4 +1,4 @@
--- `add_prod` meets its contract: the laws of proofs/FirstRooms. Assumes nothing.
+-- `add_prod` meets its contract: the laws of proofs/FirstAdd. Assumes nothing.
 use mathlib.Core.Bool.{false, _&&_, _||_, not}
 use mathlib.Core.List.{List}
 use mathlib.Core.Logic.{⊎-elim}

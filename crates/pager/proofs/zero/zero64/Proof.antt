@@ -7,10 +7,10 @@ use Rattle.pager.proofs.zero.zero64.Statement.{statement}
 use Rattle.pager.proofs.zero.zero64.Tie as tie
 
 abbrev Inv-loop : tie.InvT-loop
-Inv-loop words₀ n i₀ words i = Zeroing words₀ n i words
+Inv-loop words₀ n k₀ words k = Zeroing words₀ n k words
 
 abbrev μ-loop : tie.MeasureT-loop
-μ-loop words₀ n i₀ words i = n - i
+μ-loop words₀ n k₀ words k = n - k
 
 loop-holds : tie.Need-loop-holds Inv-loop μ-loop
 loop-holds c = zeroing-start _ _ (c .pre)
@@ -21,8 +21,8 @@ mul-words c = let l = c .before .loop .inv in omega (arith, l .room, l .size)
 slice-write-words : tie.Need-slice-write-words Inv-loop μ-loop
 slice-write-words c = let l = c .before .loop .inv in omega (arith, l .room, l .size)
 
-add-i : tie.Need-add-i Inv-loop μ-loop
-add-i c = let l = c .before .loop .inv in omega (arith, l .room, l .size)
+add-k : tie.Need-add-k Inv-loop μ-loop
+add-k c = let l = c .before .loop .inv in omega (arith, l .room, l .size)
 
 loop-less : tie.Need-loop-less Inv-loop μ-loop
 loop-less c = omega arith
@@ -45,7 +45,7 @@ zero64-spec =
     loop-holds
     mul-words
     slice-write-words
-    add-i
+    add-k
     loop-less
     loop-again
     same-length
