@@ -1,3 +1,4 @@
 pub mod LineLaws
 pub mod PartLaws
 pub mod ScanLaws
+pub mod OneAnswer

@@ -10,7 +10,7 @@ use std::process::ExitCode;
 use timkerzal::{build_growing, where_it_lies, Block, Ended, Refusal, ITEMS, RECORDS, STATES};
 
 const HELP: &str = "\
-timkerzal: LR(1) tables and a shift-reduce machine, proved
+timkerzal: LR(1) tables and a shift-reduce machine, over a proved library
 
   timkerzal build BLOCK [--names FILE] [--tables FILE]
       prints the states with kernel items and contexts, the edges, the tables, both conflict lists, the choices made by
