@@ -1,3 +1,5 @@
-pub mod Wrote
-pub mod Parts
-pub mod Front
+pub mod Readings
+pub mod ListLaws
+pub mod TallyLaws
+pub mod OneTally
+pub mod AllHold

@@ -1,13 +1,12 @@
 // Replays a list of cases from standard input: each line is one case, and every word that it expects is compared with
-// what the library answers. The lists and their form are the oracle's (lists/FORMAT.md).
-mod block_cases;
-mod itemset_cases;
+// what the library answers. The lists and their form are the oracle's (oracle/lists/FORMAT.md).
 mod lines;
-mod machine_cases;
-mod pager_cases;
-mod statetable_cases;
+mod lists;
 
+pub use lines::Tally;
+pub use lines::count_cases;
 pub use lines::replay;
+pub use lists::holds;
 
 // The lists, by the numbers that the list of refusals gives them; those that it leaves out follow.
 pub const BLOCKS: u64 = 0;

@@ -1,25 +1,17 @@
 // The lines of a list, from the first to the last.
-use crate::BLOCKS;
-use crate::BODIES;
-use crate::CLOSURES;
-use crate::FIRSTS;
-use crate::GRAPHS;
-use crate::QUERIES;
-use crate::REFUSALS;
-use crate::RUNS;
-use crate::TABLES;
-use crate::block_cases::block_holds;
-use crate::block_cases::body_holds;
-use crate::block_cases::firsts_hold;
-use crate::itemset_cases::closure_holds;
-use crate::machine_cases::run_holds;
-use crate::pager_cases::graph_holds;
-use crate::statetable_cases::build_holds;
-use crate::statetable_cases::query_holds;
+use crate::lists::holds;
 use words::Line;
+use words::Word;
 use words::next_line;
+use words::next_word;
+ghost use mathlib.Core.Bool.{true};
+ghost use mathlib.Core.List.{List};
+ghost use mathlib.Core.Logic.{_↔_};
 ghost use mathlib.Core.Path.{_≡_};
+ghost use Prim.Native.Nat.{ℕ};
 ghost use lib.ListN.{length};
+ghost use Rattle.words.specs.Words.{end, nextWord};
+ghost use Rattle.replay.specs.Tally.{CaseIs, TallyOf};
 
 // Most bytes of a list.
 const TEXT: usize = 2097152;
@@ -39,34 +31,17 @@ enum Case {
     Fault(usize),
 }
 
-// Whether the library answers what the case of a call expects.
-fn call_holds(list: u64, words: &[u64]) -> bool {
-    match list {
-        BLOCKS => block_holds(words),
-        BODIES => body_holds(words),
-        GRAPHS => graph_holds(words),
-        TABLES => build_holds(words),
-        QUERIES => query_holds(words),
-        RUNS => run_holds(words),
-        FIRSTS => firsts_hold(words),
-        CLOSURES => closure_holds(words),
-        _ => false,
-    }
-}
-
-// Whether the library answers what the case expects; in the list of refusals the call stands first.
-fn holds(list: u64, words: &[u64]) -> bool {
-    if list != REFUSALS {
-        return call_holds(list, words);
-    }
-    if words.len() == 0 {
-        return false;
-    }
-    call_holds(words[0], &words[1..])
+// The cases of a text, those among them that differ, and whether only blanks stand behind them.
+pub struct Tally {
+    pub cases: u64,
+    pub differ: u64,
+    pub whole: bool,
 }
 
 // The case on the line that comes next from `at` on.
-fn next_case(list: u64, text: &[u8], at: usize) -> Case {
+fn next_case(list: u64, text: &[u8], at: usize) -> Case
+    ensures { λ r. ⌜ CaseIs list (now (text .entry)) at r ⌝ }
+{
     let mut words = [0u64; LINE];
     match next_line(text, at, &mut words) {
         Line::Numbers(n, place) => {
@@ -86,7 +61,21 @@ fn tell(number: u64, what: &[u8]) {
     io::write_all(1, what);
 }
 
-fn replay_text(list: u64, text: &[u8]) {
+// Whether only blanks follow.
+fn ends(text: &[u8], at: usize) -> bool
+    ensures { λ r. ⌜ ((r ≡ true) ↔ (nextWord (now (text .entry)) at ≡ end)) ⌝ }
+{
+    match next_word(text, at) {
+        Word::End => true,
+        Word::Number(_, _) => false,
+        Word::Fault(_) => false,
+    }
+}
+
+// Counts the cases up to the end or a fault, and tells the first that differ.
+pub fn count_cases(list: u64, text: &[u8]) -> Tally
+    ensures { λ r. ⌜ TallyOf list (now (text .entry)) r ⌝ }
+{
     let mut at = 0;
     let mut cases = 0u64;
     let mut differ = 0u64;
@@ -111,8 +100,11 @@ fn replay_text(list: u64, text: &[u8]) {
         cases += 1;
         left -= 1;
     }
-    tell(cases, b" cases, ");
-    tell(differ, b" differ\n");
+    Tally {
+        cases,
+        differ,
+        whole: ends(text, at),
+    }
 }
 
 // Room for a list's text. The length is told since lending the array needs it.
@@ -122,10 +114,19 @@ fn text_room() -> [u8; TEXT]
     [0; TEXT]
 }
 
-// Replays the list of that number, and tells its name, how many cases it has and how many of them differ.
-pub fn replay(name: &[u8], list: u64) {
+// Replays the list of that number, and tells its name, how many cases it has, how many of them differ, and whether it was
+// not read whole. No contract can name the text that is read: the tally of any would do. What is proved is `count_cases`.
+pub fn replay(name: &[u8], list: u64) -> Tally
+    ensures { λ r. ⌜ ((text : List ℕ) × TallyOf list text r) ⌝ }
+{
     io::write_all(1, name);
     let mut text = text_room();
     let n = io::read_full(0, &mut text);
-    replay_text(list, &text[..n]);
+    let r = count_cases(list, &text[..n]);
+    tell(r.cases, b" cases, ");
+    tell(r.differ, b" differ\n");
+    if !r.whole {
+        io::write_all(1, b"not read whole\n");
+    }
+    r
 }

@@ -2,14 +2,14 @@
 use mathlib.Core.Bool.{Bool, true, false, cond}
 use mathlib.Core.Logic.{_↔_}
 use mathlib.Core.List.{List, [], _∷_}
-use mathlib.Core.Path.{_≡_, refl, sym, ap, _∙_}
-use Prim.Native.Nat.{ℕ, zero, suc, _+_, _-_, _^_, _<_, _≤_}
+use mathlib.Core.Path.{_≡_, refl, ap}
+use Prim.Native.Nat.{ℕ, suc, _+_, _-_, _^_, _<_, _≤_}
 use native.Mathlib.Omega.{arith}
 use native.Mathlib.Numerals.{add-one}
-use lib.Dec.{leb, ltb}
+use lib.Dec.{leb}
 use lib.ListN.{length, getD, take, drop, set, drop-of-length-le, length-drop}
 use lib.Seq.{drop-cons, ext-getD, take-all}
-use borrow.Author.Tests.{le-leb, lt-leb, lt-ltb, le-ltb, leb-true}
+use borrow.Author.Tests.{le-leb, lt-leb, lt-ltb, le-ltb}
 use Rattle.words.specs.Parts.{endOf, partOf, behindOf, narrowFrom}
 
 pub end-none : (ws : List ℕ) → length ws ≡ 0 → endOf ws ≡ 0
@@ -80,6 +80,3 @@ module _ (ws : List ℕ) (i : ℕ) (out : List ℕ) where
 module _ (a b : List ℕ) where
   pub same-all : length a ≡ length b → ((k : ℕ) → k < length a → getD a k 0 ≡ getD b k 0) → (true ≡ true) ↔ (a ≡ b)
   same-all e h = (λ _. ext-getD 0 a b e h, λ _. refl)
-
-  pub not-same : (a ≡ b → ⊥) → (false ≡ true) ↔ (a ≡ b)
-  not-same n = (λ z. absurd (let y : _≡_ {A = ℕ} 0 1 = cc in omega arith), λ e. absurd (n e))

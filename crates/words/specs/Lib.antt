@@ -1,4 +1,5 @@
 pub mod Words
 pub mod Lines
 pub mod Parts
+pub mod Given
 pub mod Unique

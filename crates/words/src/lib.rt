@@ -2,8 +2,12 @@
 mod parts;
 mod scan;
 
+pub use parts::begins;
+pub use parts::begins32;
 pub use parts::behind;
+pub use parts::behind_three;
 pub use parts::narrow;
+pub use parts::numbers_begin;
 pub use parts::part;
 pub use parts::same;
 pub use parts::same32;

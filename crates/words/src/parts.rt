@@ -1,11 +1,13 @@
 // The parts of a line: a part is its length, then its words.
 use crate::scan::index;
 ghost use mathlib.Core.Bool.{true};
+ghost use mathlib.Core.List.{_++_};
 ghost use mathlib.Core.Logic.{_↔_};
 ghost use mathlib.Core.Path.{_≡_};
 ghost use Prim.Native.Nat.{_≤_};
-ghost use lib.ListN.{length};
+ghost use lib.ListN.{length, drop};
 ghost use Rattle.words.specs.Parts.{endOf, partOf, behindOf, narrowFrom, Counts};
+ghost use Rattle.words.specs.Given.{asPart};
 
 // The place behind the part that the words begin with, or 0 where none stands whole.
 fn part_end(words: &[u64]) -> usize
@@ -42,6 +44,15 @@ pub fn behind(words: &[u64]) -> &[u64]
         return &words[..0];
     }
     &words[from..]
+}
+
+// What stands behind three parts.
+pub fn behind_three(words: &[u64]) -> &[u64]
+    ensures { λ r. ⌜ now r ≡ behindOf (behindOf (behindOf (now (words .entry)))) ⌝ }
+{
+    let first = behind(words);
+    let second = behind(first);
+    behind(second)
 }
 
 // Puts the words into the first slots, up to the first that is no u32 word or has no slot. Answers how many.
@@ -95,4 +106,40 @@ pub fn same32(a: &[u64], b: &[u32]) -> bool
         i += 1;
     }
     true
+}
+
+// Whether the words begin with the buffer, as a part.
+pub fn begins(words: &[u64], buffer: &[u64]) -> bool
+    ensures { λ r. ⌜ ((r ≡ true) ↔ (now (words .entry) ≡ asPart (now (buffer .entry)) ++ behindOf (now (words .entry)))) ⌝ }
+{
+    if words.len() == 0 {
+        return false;
+    }
+    if words[0] != buffer.len() as u64 {
+        return false;
+    }
+    same(part(words), buffer)
+}
+
+pub fn begins32(words: &[u64], slots: &[u32]) -> bool
+    ensures { λ r. ⌜ ((r ≡ true) ↔ (now (words .entry) ≡ asPart (now (slots .entry)) ++ behindOf (now (words .entry)))) ⌝ }
+{
+    if words.len() == 0 {
+        return false;
+    }
+    if words[0] != slots.len() as u64 {
+        return false;
+    }
+    same32(part(words), slots)
+}
+
+// Whether the words begin with the numbers.
+pub fn numbers_begin(words: &[u64], numbers: &[u64]) -> bool
+    ensures { λ r. ⌜ ((r ≡ true) ↔ (now (words .entry) ≡ now (numbers .entry) ++ drop (length (now (numbers .entry))) (now (words .entry)))) ⌝ }
+{
+    let n = numbers.len();
+    if words.len() < n {
+        return false;
+    }
+    same(&words[..n], numbers)
 }

@@ -1,7 +1,9 @@
 -- `next_case` looks at the numbers that `next_line` put. Assumes nothing.
 use borrow.Author.Needs.{needs}
-use mathlib.Core.Path.{subst}
+use mathlib.Core.Path.{sym, subst, _∙_}
 use Rattle.words.specs.Lines.{Fits}
+use Rattle.words.proofs.Answers.{differ}
+use Rattle.replay.proofs.TallyLaws.{case-holds, case-differs, case-end, case-fault}
 use Rattle.replay.proofs.lines.next_case.Statement.{statement}
 use Rattle.replay.proofs.lines.next_case.Tie as tie
 
@@ -34,16 +36,31 @@ enum-known-place : tie.Need-enum-known-place
 enum-known-place c = search needs
 
 returns : tie.Need-returns
-returns c = search needs
+returns c =
+    let x = c .before .before .before .before in
+    let l = x .before .before .before in
+    let a = l .before .before .before .args in
+    case-holds (a .list) (a .text .now) (a .at) (l .next-line .ensures .0) _ _ (x .n .given .1) (c .before .holds .ensures .0 (c .if1 .taken))
 
 returns-2 : tie.Need-returns-2
-returns-2 c = search needs
+returns-2 c =
+    let x = c .before .before .before .before in
+    let l = x .before .before .before in
+    let a = l .before .before .before .args in
+    case-differs (a .list) (a .text .now) (a .at) (l .next-line .ensures .0) _ _ (x .n .given .1) (λ h. differ (sym (c .if1 .left) ∙ c .before .holds .ensures .1 h))
 
 returns-3 : tie.Need-returns-3
-returns-3 c = search needs
+returns-3 c =
+    let l = c .before .before .before in
+    let a = l .before .before .before .args in
+    case-end (a .list) (a .text .now) (a .at) (l .next-line .ensures .0) (c .enum-told .given .1)
 
 returns-4 : tie.Need-returns-4
-returns-4 c = search needs
+returns-4 c =
+    let x = c .before in
+    let l = x .before .before .before in
+    let a = l .before .before .before .args in
+    case-fault (a .list) (a .text .now) (a .at) (l .next-line .ensures .0) _ (x .place .given .1)
 
 pub next-case-spec : {M : Type 1} → statement M
 next-case-spec =

@@ -1,0 +1,4 @@
+pub mod Wrote
+pub mod Parts
+pub mod Kernels
+pub mod KernelLaws

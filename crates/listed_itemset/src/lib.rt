@@ -1,0 +1,4 @@
+// The listed cases of the crate `itemset`: closures and gotos.
+mod cases;
+
+pub use cases::closure_holds;

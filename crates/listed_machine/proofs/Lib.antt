@@ -1,0 +1,3 @@
+pub mod RanLaws
+pub mod LentLaws
+pub mod TablesLaws

@@ -1,0 +1,4 @@
+// The listed cases of the crate `machine`: runs.
+mod cases;
+
+pub use cases::run_holds;

@@ -1,0 +1,5 @@
+pub mod Cleared
+pub mod GraphLaws
+pub mod ThreeParts
+pub mod ThreeWords
+pub mod WorkLaws

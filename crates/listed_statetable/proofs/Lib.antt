@@ -1,0 +1,11 @@
+pub mod Tails
+pub mod Pairs
+pub mod Cells
+pub mod AskedKinds
+pub mod WordCases
+pub mod Heads
+pub mod PartLists
+pub mod Expected
+pub mod Seeing
+pub mod Lending
+pub mod BuildCases
