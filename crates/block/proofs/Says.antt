@@ -44,11 +44,11 @@ module _ {P : Type 0} where
   denies-not {c = false} s = record { fails = λ e. absurd (true≢false e); holds = λ e. s.fails refl }
 
 module _ {P : Type 0} {c : Bool} where
-  pub refuses : Denies c P → not c ≡ true → P
-  refuses s e = s.fails (not-true c e)
+  pub refuses : Denies c P → c ≡ false → P
+  refuses s e = s.fails e
 
-  pub allows : Denies c P → not c ≡ false → P → ⊥
-  allows s e = s.holds (not-false c e)
+  pub allows : Denies c P → c ≡ true → P → ⊥
+  allows s e = s.holds e
 
 -- ---- a test t of the code beside the test c of the definition
 module _ {P : Type 0} {t c : Bool} where
@@ -63,10 +63,10 @@ module _ {P : Type 0} {t c : Bool} where
       record { fails = λ q. s.holds (not-false c (sym e ∙ q)); holds = λ q. s.fails (not-true c (sym e ∙ q)) }
 
   -- a check of the code that answers the contrary of the definition's test
-  pub fell : t ≡ not c → Says c P → not t ≡ true → P
+  pub fell : t ≡ not c → Says c P → t ≡ false → P
   fell e s = refuses (denies-of e s)
 
-  pub stood : t ≡ not c → Says c P → not t ≡ false → P → ⊥
+  pub stood : t ≡ not c → Says c P → t ≡ true → P → ⊥
   stood e s = allows (denies-of e s)
 
   pub agree : Says t P → Says c P → t ≡ c

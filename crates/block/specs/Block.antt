@@ -1,5 +1,5 @@
 -- The grammar block as a list of words: what stands where. Assumes nothing.
-use Rattle.std.specs.Prelude.{List, ℕ, ◌+◌, ◌*◌, ◌<◌, eqb, get_or, take, drop}
+use Rattle.std.specs.Prelude.{List, ℕ, ◌+◌, ◌*◌, eqb, get_or, take, drop}
 use Rattle.block.specs.Limits.{HEADER}
 use Rattle.block.specs.Lists.{keep, upto}
 

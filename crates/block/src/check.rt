@@ -9,7 +9,7 @@ ghost use Rattle.block.specs.Answer.{number_of, sizes_in};
 use crate::limits::{HEADER, LENGTH, LEVEL, PRODS, RULES, SYMBOLS, TOKENS};
 use crate::prods::{read_sizes, word};
 
-#[derive(Drop)]
+#[derive(Clone, Copy)]
 pub struct Sizes {
     pub tokens: usize,
     pub rules: usize,
@@ -19,7 +19,7 @@ pub struct Sizes {
     pub start: usize,
 }
 
-#[derive(Drop)]
+#[derive(Clone, Copy)]
 pub enum Checked {
     Good(Sizes),
     BadHeader,

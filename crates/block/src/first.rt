@@ -9,14 +9,14 @@ use crate::prods::{body_of, rule_of, sizes_of};
 use crate::set::{TokenSet, load, store};
 
 // What may stand ahead in a rest of symbols: whether it is nullable, and its FIRST.
-#[derive(Drop)]
+#[derive(Clone, Copy)]
 pub struct Lookahead {
     pub null: bool,
     pub set: TokenSet,
 }
 
 // Of each rule, whether it is nullable and the words of its FIRST.
-#[derive(Drop)]
+#[derive(Clone, Copy)]
 pub struct FirstSets {
     pub nullable: [bool; RULES],
     pub first: [u64; FIRST_WORDS],

@@ -1,4 +1,6 @@
 // The grammar block, token sets, nullable and FIRST.
+#![tactic(auto)]
+
 mod check;
 mod first;
 pub mod limits;

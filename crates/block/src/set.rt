@@ -6,7 +6,7 @@ ghost use Rattle.block.specs.Sets.{mem, In, empty, with, join, meets, next_of};
 
 use crate::limits::{TOKENS, WORDS};
 
-#[derive(Drop)]
+#[derive(Clone, Copy)]
 pub struct TokenSet {
     pub words: [u64; WORDS],
 }
