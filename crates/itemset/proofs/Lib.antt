@@ -24,7 +24,7 @@ pub mod Laid
 pub mod WorkList
 pub mod Work
 pub mod Distinct
-pub mod Sights
+pub mod Sighting
 pub mod Moves
 pub mod Gotos
 pub mod Rule4

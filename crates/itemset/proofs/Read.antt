@@ -12,7 +12,7 @@ use lib.Seq.{length-take-le, get_or-take, get_or-drop, drop-drop}
 use Rattle.block.specs.Limits.{WORDS, ITEM}
 use Rattle.block.specs.Refusal.{Good}
 use Rattle.block.specs.Sets.{Words, Fits}
-use Rattle.itemset.specs.Rows.{Row, row, words_of, Sets, Rows}
+use Rattle.itemset.specs.Rows.{Row, row, words_of, Sets}
 use Rattle.itemset.specs.Right.{item_right}
 use Rattle.itemset.specs.Lent.{RowsIn}
 use Rattle.itemset.proofs.Words.{words-injective}

@@ -24,7 +24,7 @@ use Rattle.itemset.proofs.Has.{Has, has-present, present-has, has-token, token-h
 use Rattle.itemset.proofs.Members.{mem-among, among-mem}
 use Rattle.itemset.proofs.Distinct.{Below, distinct-at, few-symbols}
 use Rattle.itemset.proofs.Rest.{symbol-injective, rest-after, Behind, after-rest, rest-small, rest-inside, rest-next}
-use Rattle.itemset.proofs.Sights.{Sighted, sights-distinct, sights-all, sights-only}
+use Rattle.itemset.proofs.Sighting.{Sighted, sights-distinct, sights-all, sights-only}
 use Rattle.itemset.proofs.Moves.{goto-has, goto-only, goto-rows, goto-dots, goto-few}
 use Rattle.itemset.proofs.Fuel.{close-rows}
 use Rattle.itemset.proofs.Rule2.{item-closed, token-holds, closed-item, holds-token}

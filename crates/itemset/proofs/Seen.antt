@@ -24,7 +24,7 @@ use Rattle.itemset.proofs.RowLaws.{both_ways}
 use Rattle.itemset.proofs.Members.{any-among, among-left, among-right, among-either}
 use Rattle.itemset.proofs.Distinct.{few-symbols}
 use Rattle.itemset.proofs.Rest.{rest-small}
-use Rattle.itemset.proofs.Sights.{sights-take, sight-end, sight-old, sight-new, sights-distinct, sights-only}
+use Rattle.itemset.proofs.Sighting.{sights-take, sight-end, sight-old, sight-new, sights-distinct, sights-only}
 use Rattle.itemset.proofs.GoodReady.{good-ready}
 use Rattle.itemset.proofs.LentRows.{in_rows, in_row, in-prod}
 use Rattle.itemset.proofs.After.{symbol-rest, end_rest}

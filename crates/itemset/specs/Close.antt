@@ -1,5 +1,5 @@
 -- Rule 2: the closure of a kernel, as rows. Assumes nothing.
-use Rattle.std.specs.Prelude.{Bool, true, false, cond, ℕ, ◌+◌, ◌*◌, ◌/◌, ◌%◌, ◌^◌, ltb, eqb, drop}
+use Rattle.std.specs.Prelude.{true, false, cond, ℕ, ◌+◌, ◌*◌, ◌/◌, ◌%◌, ◌^◌, ltb, eqb, drop}
 use mathlib.Core.List.{List, [], ◌∷◌, foldl}
 use Rattle.block.specs.Limits.{WORDS, DOTS}
 use Rattle.block.specs.Lists.{settle}

@@ -16,7 +16,7 @@ use block::limits::{DOTS, FIRST_WORDS, ITEM, PRODS, RULES};
 use block::{TokenSet, body_of, first_of, load, rule_of, sizes_of};
 
 // The rule behind an item's dot, RULES for none, and what the item hands to the productions of that rule.
-#[derive(Drop)]
+#[derive(Clone, Copy)]
 pub struct Offer {
     pub rule: usize,
     pub set: TokenSet,

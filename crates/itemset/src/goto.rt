@@ -19,14 +19,14 @@ const SIGHTS: usize = RULES + TOKENS;
 const NUMBERS: usize = 2 * SIGHTS;
 
 // The symbols sighted, in order, and zeros behind them.
-#[derive(Drop)]
+#[derive(Clone, Copy)]
 pub struct Sights {
     pub count: usize,
     pub symbols: [u32; SIGHTS],
 }
 
 // What is behind a dot.
-#[derive(Drop)]
+#[derive(Clone, Copy)]
 enum After {
     Symbol(u32),
     End,

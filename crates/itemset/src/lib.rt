@@ -1,4 +1,6 @@
 // Closure and goto of a kernel (itemset.rs).
+#![tactic(auto)]
+
 mod closure;
 mod goto;
 mod lay;

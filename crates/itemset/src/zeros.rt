@@ -2,7 +2,7 @@
 use block::TokenSet;
 use block::limits::PRODS;
 
-#[derive(Drop)]
+#[derive(Clone, Copy)]
 pub struct Zeros {
     pub todo: [bool; PRODS],
     pub here: [bool; PRODS],
