@@ -10,7 +10,7 @@ use lib.Dec.{ltb}
 use lib.ListN.{length, drop, replicate}
 use lib.Seq.{drop_at}
 use Rattle.block.specs.Limits.{TOKENS, RULES, PRODS, SYMBOLS}
-use Rattle.block.specs.Block.{tokens, rules, prods, symbols}
+use Rattle.block.specs.Block.{tokens, rules}
 use Rattle.block.specs.Refusal.{refusal_of, Good}
 use Rattle.block.specs.First.{firsts_of}
 use Rattle.block.specs.Answer.{sizes_of}

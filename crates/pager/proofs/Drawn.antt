@@ -17,7 +17,7 @@ use Rattle.block.specs.Grammar.{symbol, grammar_of}
 use Rattle.block.proofs.ListLaws.{change-size}
 use Rattle.block.proofs.Good.{placed}
 use Rattle.itemset.specs.Rows.{words_of}
-use Rattle.pager.specs.Place.{State, Limits, items}
+use Rattle.pager.specs.Place.{State, Limits}
 use Rattle.pager.specs.Graph.{nowhere, edge_at, edge_to, mark}
 use Rattle.pager.specs.Memory.{pad, item_words, edge_words, mark_words}
 use Rattle.pager.specs.Held.{STATES, Behind, Held, count_of}

@@ -9,14 +9,12 @@ use Rattle.block.specs.Limits.{ITEM, RULES, TOKENS, SYMBOLS}
 use Rattle.block.specs.Lists.{change}
 use Rattle.block.specs.Block.{tokens, rules, symbols}
 use Rattle.block.specs.Refusal.{Good}
-use Rattle.block.specs.Grammar.{symbol}
 use Rattle.block.specs.First.{firsts_of}
 use Rattle.block.proofs.Good.{placed}
 use Rattle.itemset.specs.Rows.{Row}
 use Rattle.itemset.specs.Close.{close_of}
 use Rattle.itemset.specs.Goto.{goto_of}
 use Rattle.itemset.specs.Rule4.{Rule4}
-use Rattle.itemset.specs.Ready.{Ready}
 use Rattle.itemset.specs.Lent as lent
 use Rattle.itemset.proofs.Fuel.{close-rows}
 use Rattle.itemset.proofs.GoodReady.{good-ready}

@@ -1,5 +1,5 @@
 -- Rules 3 and 4: which state is closed next, its gotos placed in order, and the graph before collection. Assumes nothing.
-use Rattle.std.specs.Prelude.{Bool, true, not, cond, List, [], ◌∷◌, ℕ, zero, suc, ◌+◌, ◌*◌, ◌/◌, ◌%◌, ◌^◌, eqb, get_or, set, drop}
+use Rattle.std.specs.Prelude.{true, not, cond, List, [], ◌∷◌, ℕ, zero, suc, ◌+◌, ◌*◌, ◌/◌, ◌%◌, ◌^◌, eqb, get_or, set, drop}
 use Rattle.std.proofs.Math.Option.{Option, none, some}
 use Rattle.block.specs.Limits.{DOTS, WORDS}
 use Rattle.block.specs.Lists.{change}

@@ -1,5 +1,5 @@
 -- The graph as whole named parts of lent memory, zero where nothing stands. Assumes nothing.
-use Rattle.std.specs.Prelude.{Bool, cond, List, [], ◌∷◌, ◌++◌, ℕ, ◌+◌, ◌-◌, length, replicate}
+use Rattle.std.specs.Prelude.{cond, List, [], ◌∷◌, ◌++◌, ℕ, ◌+◌, ◌-◌, length, replicate}
 use Rattle.itemset.specs.Rows.{words_of}
 use Rattle.pager.specs.Lists.{each}
 use Rattle.pager.specs.Place.{State}

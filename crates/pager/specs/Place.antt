@@ -1,6 +1,6 @@
 -- Rule 5: a kernel finds its state. Assumes nothing.
 use Rattle.std.specs.Prelude.{Bool, true, false, ◌&&◌, List, [], ◌∷◌, ◌++◌, ℕ, suc, ◌+◌, ltb, leb, eqb, length, replicate}
-use Rattle.std.proofs.Math.Option.{Option, none, some}
+use Rattle.std.proofs.Math.Option.{none, some}
 use Rattle.block.specs.Lists.{change}
 use Rattle.block.specs.Block.{tokens, rules}
 use Rattle.itemset.specs.Rows.{Row, same_rows}

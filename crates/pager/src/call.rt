@@ -17,14 +17,14 @@ use block::limits::ITEM;
 use block::{check_block, number, sizes_of};
 
 // States and items kept, and the states before collection.
-#[derive(Drop)]
+#[derive(Clone, Copy)]
 pub struct Kept {
     pub states: usize,
     pub items: usize,
     pub before: usize,
 }
 
-#[derive(Drop)]
+#[derive(Clone, Copy)]
 pub enum Graphed {
     Built(Kept),
     Refused(u32),

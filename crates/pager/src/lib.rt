@@ -1,4 +1,6 @@
 // The state graph: weak compatibility, merge, placing, collection (pager.rs).
+#![tactic(auto)]
+
 mod build;
 mod call;
 mod collect;

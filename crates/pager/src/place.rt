@@ -13,7 +13,7 @@ use crate::room::{Count, Room};
 use block::limits::ITEM;
 
 // The state that a kernel came to, and the graph's numbers then.
-#[derive(Drop)]
+#[derive(Clone, Copy)]
 pub struct Put {
     pub to: usize,
     pub count: Count,

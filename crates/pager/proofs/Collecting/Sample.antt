@@ -10,7 +10,7 @@ use Rattle.block.specs.Lists.{same, settle}
 use Rattle.block.specs.Sets.{empty, with}
 use Rattle.itemset.specs.Rows.{words_of}
 use Rattle.pager.specs.Lists.{each}
-use Rattle.pager.specs.Place.{State, Limits, new, items}
+use Rattle.pager.specs.Place.{State, Limits, new}
 use Rattle.pager.specs.Graph.{start_state}
 use Rattle.pager.specs.Collect.{mark_to, spread, reach_of, rank, renumber, kept, collect_of}
 use Rattle.pager.specs.Memory.{pad, item_words, spans_from, edge_words, mark_words}
