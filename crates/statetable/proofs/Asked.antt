@@ -11,7 +11,7 @@ use lib.Dec.{ltb}
 use lib.ListN.{length, get_or}
 use Rattle.knuth.specs.Tables as theory
 use Rattle.block.specs.Limits.{TOKENS, RULES, PRODS}
-use Rattle.block.specs.Block.{tokens, rules}
+use Rattle.block.specs.Block.{rules}
 use Rattle.block.specs.Refusal.{refusal_of, Good}
 use Rattle.block.specs.Answer.{sizes_of}
 use Rattle.block.specs.declared.check.Sizes.{Sizes}

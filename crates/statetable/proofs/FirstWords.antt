@@ -8,7 +8,7 @@ use native.Mathlib.Omega.{arith}
 use lib.ListN.{length, take, drop, replicate, length-append, length-drop, length-replicate, replicate-append-replicate}
 use lib.Seq.{take_at, drop_at, drop-drop, length-take-le, length_front}
 use Rattle.block.specs.Limits.{ITEM, TOKENS, RULES}
-use Rattle.block.specs.Block.{tokens, prods, symbols}
+use Rattle.block.specs.Block.{tokens}
 use Rattle.block.specs.Answer.{sizes_of}
 use Rattle.block.specs.declared.check.Sizes.{Sizes}
 use Rattle.block.specs.First.{firsts_of, Stored}

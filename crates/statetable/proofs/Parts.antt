@@ -7,7 +7,6 @@ use native.Mathlib.Omega.{arith}
 use lib.ListN.{length, get_or, take, drop, replicate, length-replicate, length-append, replicate-append-replicate}
 use lib.Seq.{take_at, drop_at}
 use Rattle.block.specs.Limits.{PRODS}
-use Rattle.block.specs.Block.{tokens, rules, prods}
 use Rattle.block.specs.Refusal.{Good}
 use Rattle.block.specs.Answer.{sizes_of}
 use Rattle.block.specs.declared.check.Sizes.{Sizes}

@@ -9,8 +9,6 @@ use native.Mathlib.Numerals.{add-one}
 use native.Mathlib.Omega.{arith}
 use lib.Dec.{ltb, eqb}
 use borrow.Author.Tests.{lt-ltb, le-ltb, eq-eqb, ne_eqb}
-use denote.Enum.Declared.{tag_of}
-use types.Run.{OneOf}
 use Rattle.knuth.specs.Tables.{Action}
 use Rattle.block.specs.Block.{prods, token_prec}
 use Rattle.statetable.specs.Cell.{of_kind, decode, encode}
@@ -19,7 +17,6 @@ use Rattle.statetable.specs.Verdict.{Verdict, writes, two-reduces, unsettled, se
 use Rattle.statetable.specs.Laid.{ActionIn}
 use Rattle.statetable.specs.declared.cell.Action as code
 use Rattle.statetable.specs.declared.cell.Action.TheVariants.{Error, Shift, Reduce, Accept}
-use Rattle.statetable.specs.contracts.cell.Action.{the_type}
 
 -- ---- the word that an action was read from
 shift-kind : (k v u : ℕ) → Action.shift u ≡ of_kind k v → (k ≡ 1) × (u ≡ v)
@@ -152,11 +149,11 @@ module _ (b : List ℕ) (s t u w p : ℕ) (e : Action.reduce p ≡ decode w) (tp
 pub known-reduce : (b : List ℕ) (w p : ℕ) → Action.reduce p ≡ decode w → ActionIn b (decode w) → p < prods b
 known-reduce b w p e h = subst (ActionIn b) (sym e) h
 
--- no reduce is there: the tag is that of another action
-pub no-reduce : (b : List ℕ) (s t u w : ℕ) (a : code.Action) → OneOf (0 ∷ 1 ∷ 3 ∷ []) (tag_of the_type a) → action_of a ≡ decode w
+-- no reduce is there
+pub no-reduce : (b : List ℕ) (s t u w : ℕ) (a : code.Action) → ((p : ℕ) → a ≡ Reduce p → ⊥) → action_of a ≡ decode w
     → writes (4 * u + 1) ≡ on_shift b s t u (decode w)
 unfolding encode
 no-reduce b s t u w Error k e = ap (on_shift b s t u) e
 no-reduce b s t u w (Shift v) k e = ap (on_shift b s t u) e
 no-reduce b s t u w Accept k e = ap (on_shift b s t u) e
-no-reduce b s t u w (Reduce p) k e = absurd (elim k [ inl z ↦ omega arith | inr z ↦ elim z [ inl y ↦ omega arith | inr y ↦ omega arith ] ])
+no-reduce b s t u w (Reduce p) k e = absurd (k p refl)

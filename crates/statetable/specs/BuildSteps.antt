@@ -1,5 +1,5 @@
 -- What the steps of the call `build` ask and leave. Assumes nothing.
-use Rattle.std.specs.Prelude.{List, [], ◌∷◌, map, ◌≡◌, ℕ, zero, suc, ◌+◌, ◌*◌, ◌≤◌, length}
+use Rattle.std.specs.Prelude.{List, [], ◌∷◌, map, ◌≡◌, ℕ, zero, suc, ◌*◌, ◌≤◌, length}
 use Rattle.block.specs.Block.{tokens, rules, prods}
 use Rattle.block.specs.Refusal.{Good}
 use Rattle.pager.specs.Lists.{each, Answer, is, refused}

@@ -1,13 +1,11 @@
 -- What the calls that fill cells are lent. Assumes nothing.
-use Rattle.std.specs.Prelude.{Bool, List, ◌++◌, ◌≡◌, ℕ, ◌+◌, ◌*◌, ◌≤◌, ◌<◌, length, get_or, replicate}
+use Rattle.std.specs.Prelude.{Bool, List, ◌≡◌, ℕ, ◌+◌, ◌*◌, ◌≤◌, ◌<◌, length, get_or, replicate}
 use Rattle.block.specs.Limits.{ITEM}
 use Rattle.block.specs.Block.{tokens, rules, prods, symbols}
 use Rattle.block.specs.Refusal.{Good}
 use Rattle.block.specs.First.{firsts_of, Stored}
 use Rattle.itemset.specs.Rows.{Row, Rows, words_of}
 use Rattle.pager.specs.Place.{State}
-use Rattle.pager.specs.Graph.{nowhere}
-use Rattle.pager.specs.Memory.{item_words, spans_from, edge_words}
 use Rattle.pager.specs.Held.{STATES}
 use Rattle.statetable.specs.Cells.{Told}
 use Rattle.statetable.specs.Laid.{Listed}

@@ -1,5 +1,5 @@
 -- The row of a state and the two lists as they lie in lent memory, and what a step of the filling leaves. Assumes nothing.
-use Rattle.std.specs.Prelude.{cond, List, [], ◌∷◌, ◌≡◌, ℕ, suc, ◌+◌, ◌*◌, ◌≤◌, ◌<◌, eqb, length, get_or}
+use Rattle.std.specs.Prelude.{cond, List, [], ◌∷◌, ◌≡◌, ℕ, ◌*◌, ◌≤◌, ◌<◌, eqb, length, get_or}
 use Rattle.knuth.specs.Tables.{Action}
 use Rattle.block.specs.Block.{tokens, prods}
 use Rattle.block.specs.Refusal.{Good}

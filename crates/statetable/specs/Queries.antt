@@ -8,7 +8,6 @@ use Rattle.pager.specs.Held.{STATES}
 use Rattle.pager.specs.Call.{some_less}
 use Rattle.statetable.specs.Cell.{decode}
 use Rattle.statetable.specs.declared.queries.Acts.{Acts}
-use Rattle.statetable.specs.declared.queries.Acts.TheVariants as Acts
 use Rattle.statetable.specs.declared.queries.Found.{Found}
 use Rattle.statetable.specs.declared.queries.Found.TheVariants.{Word, Refused}
 

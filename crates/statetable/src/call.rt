@@ -18,7 +18,7 @@ use block::{check_block, number, sizes_of};
 use pager::{Graphed, Kept, Room, graph, room_short, zero32, zero64};
 
 // States, kernel items, and records of each list that there is room for.
-#[derive(Drop)]
+#[derive(Clone, Copy)]
 pub struct Named {
     pub states: usize,
     pub items: usize,
@@ -27,7 +27,7 @@ pub struct Named {
 }
 
 // States and items kept, states before collection, records in each list, choices made by precedence.
-#[derive(Drop)]
+#[derive(Clone, Copy)]
 pub struct Counts {
     pub states: usize,
     pub items: usize,
@@ -37,7 +37,7 @@ pub struct Counts {
     pub count: usize,
 }
 
-#[derive(Drop)]
+#[derive(Clone, Copy)]
 pub enum StateTable {
     Made(Counts),
     // 1 to 10

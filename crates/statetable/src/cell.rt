@@ -3,7 +3,7 @@ ghost use Rattle.std.specs.Prelude.{◌≡◌};
 ghost use Rattle.statetable.specs.Cell.{decode};
 ghost use Rattle.statetable.specs.Named.{action_of};
 
-#[derive(Drop)]
+#[derive(Clone, Copy)]
 pub enum Action {
     Error,
     Shift(u32),

@@ -1,4 +1,6 @@
 // Cells, gotos, conflict lists and marks of a graph, and the whole build (statetable.rs).
+#![tactic(auto)]
+
 mod call;
 mod cell;
 mod derive;

@@ -9,7 +9,7 @@ use crate::cell::{Action, decode};
 use block::{check_block, number, sizes_of};
 use pager::limits::STATES;
 
-#[derive(Drop)]
+#[derive(Clone, Copy)]
 pub enum Found {
     Word(u32),
     // 1 to 7 or 18
@@ -17,7 +17,7 @@ pub enum Found {
 }
 
 // The action of a cell, or why there is none.
-#[derive(Drop)]
+#[derive(Clone, Copy)]
 pub enum Acts {
     Error,
     Shift(u32),

@@ -8,7 +8,7 @@ use crate::limits::{RR, SR};
 use crate::verdict::Verdict;
 
 // Most records in each list.
-#[derive(Drop)]
+#[derive(Clone, Copy)]
 pub struct Caps {
     pub rr: usize,
     pub sr: usize,
@@ -16,7 +16,7 @@ pub struct Caps {
 
 // Records in each list, the choices made by precedence, and why the walk had to stop: 0 while it goes on; 10; 11 with the reduce that was there and one
 // more, or 0, then the production; 12 with token, production and state.
-#[derive(Drop)]
+#[derive(Clone, Copy)]
 pub struct Tally {
     pub rr: usize,
     pub sr: usize,

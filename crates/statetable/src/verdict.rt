@@ -13,7 +13,7 @@ use crate::cell::{Action, decode};
 use block::{prod_prec, token_prec};
 
 // The cell's word then, and what is told beside it.
-#[derive(Drop)]
+#[derive(Clone, Copy)]
 pub enum Verdict {
     Write(u32),
     // the smaller production and the other: recorded
