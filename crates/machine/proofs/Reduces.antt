@@ -3,7 +3,6 @@ use mathlib.Core.Bool.{Bool, true, false, ◌&&◌, not, cond, and-false}
 use mathlib.Core.List.Memᴰ
 use mathlib.Core.List.{List, [], ◌∷◌, ◌++◌, append_assoc, reverse, reverse-cons, reverse-append, Memᴰ}
 use mathlib.Core.Logic.{⊎_elim}
-use mathlib.Core.Option.{none}
 use mathlib.Core.Path.{◌≡◌, refl, sym, ap, ◌∙◌, subst}
 use Prim.Native.Nat.{ℕ, zero, suc, ◌+◌, ◌*◌, ◌-◌, ◌≤◌, ◌<◌}
 use native.Mathlib.Numerals.{add-one}

@@ -1,7 +1,7 @@
 // How a run stands, and what a step and a whole run answer.
 
 // Tokens shifted, reductions, steps, and the stack's height.
-#[derive(Drop)]
+#[derive(Clone, Copy)]
 pub struct Run {
     pub at: usize,
     pub k: usize,
@@ -9,7 +9,7 @@ pub struct Run {
     pub height: usize,
 }
 
-#[derive(Drop)]
+#[derive(Clone, Copy)]
 pub enum Step {
     On(Run),
     Accept(Run),
@@ -18,7 +18,7 @@ pub enum Step {
     Refused(u32),
 }
 
-#[derive(Drop)]
+#[derive(Clone, Copy)]
 pub enum Ran {
     Accept(Run),
     Reject(Run),

@@ -1,4 +1,6 @@
 // The shift-reduce machine.
+#![tactic(auto)]
+
 mod answers;
 mod call;
 pub mod limits;
