@@ -1,10 +1,9 @@
 -- What the answer of a function that is asked tells, and the answer no. Assumes nothing.
-use mathlib.Core.Bool.{Bool, true, false, not}
+use mathlib.Core.Bool.{Bool, true, false}
 use mathlib.Core.Logic.{◌↔◌}
 use mathlib.Core.Path.{◌≡◌, sym, ◌∙◌}
 use Prim.Native.Nat.{ℕ}
 use native.Mathlib.Omega.{arith}
-use borrow.Author.Tests.{not-true, not-false}
 
 pub differ : false ≡ true → ⊥
 differ e = let y : ◌≡◌ {A = ℕ} 0 1 = cc in omega arith
@@ -14,12 +13,12 @@ module _ {P : Type 0} where
   says-no n = (λ e. absurd (differ e), λ p. absurd (n p))
 
   module _ (r : Bool) (i : (r ≡ true) ↔ P) where
-    pub refuted : not r ≡ true → P → ⊥
-    refuted e p = differ (sym (not-true r e) ∙ i.1 p)
+    pub refuted : r ≡ false → P → ⊥
+    refuted e p = differ (sym e ∙ i.1 p)
 
-    pub granted : not r ≡ false → P
-    granted e = i.0 (not-false r e)
+    pub granted : r ≡ true → P
+    granted e = i.0 e
 
     -- P is needed for Q
-    pub fails : {Q : Type 0} → not r ≡ true → (Q → P) → (false ≡ true) ↔ Q
+    pub fails : {Q : Type 0} → r ≡ false → (Q → P) → (false ≡ true) ↔ Q
     fails e f = (λ t. absurd (differ t), λ q. absurd (refuted e (f q)))

@@ -1,12 +1,12 @@
 -- One number more of a line, or its end. Assumes nothing.
 use mathlib.Core.List.{List}
-use mathlib.Core.Path.{◌≡◌, refl, sym, ap, ◌∙◌}
+use mathlib.Core.Path.{◌≡◌, refl}
 use Prim.Native.Nat.{ℕ, suc, ◌+◌, ◌-◌, ◌<◌, ◌≤◌}
 use native.Mathlib.Omega.{arith}
 use native.Mathlib.Numerals.{add-one}
 use lib.ListN.{length, set}
 use borrow.Author.Tests.{le-leb, lt-leb}
-use Rattle.words.specs.Words.{Read, number, end, fault, next_word}
+use Rattle.words.specs.Words.{number, end, fault, next_word}
 use Rattle.words.specs.Lines.{fill_from, line_from}
 
 module _ (text : List ℕ) (n k i : ℕ) (out : List ℕ) where

@@ -1,9 +1,7 @@
 -- Each answer can be read back from what was read. Assumes nothing.
 use mathlib.Core.Path.{◌≡◌, refl, sym, ap, ◌∙◌}
 use Rattle.words.specs.declared.scan.Word.{Word}
-use Rattle.words.specs.declared.scan.Word.TheVariants as Word
 use Rattle.words.specs.declared.scan.Line.{Line}
-use Rattle.words.specs.declared.scan.Line.TheVariants as Line
 use Rattle.words.specs.Words.{Read, number, end, fault, read_of}
 use Rattle.words.specs.Lines.{line_of}
 use Rattle.words.specs.Unique.{ClaimWord, ClaimLine}

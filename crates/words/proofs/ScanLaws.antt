@@ -1,5 +1,4 @@
 -- One step of each scan of a text, at the byte c that stands at place i. Assumes nothing.
-use mathlib.Core.Bool.{◌||◌}
 use mathlib.Core.List.{List, ◌∷◌}
 use mathlib.Core.Path.{◌≡◌, refl, sym, ap, ◌∙◌}
 use Prim.Native.Nat.{ℕ, suc, ◌+◌, ◌*◌, ◌-◌, ◌^◌, ◌<◌, ◌≤◌}
@@ -7,7 +6,7 @@ use native.Mathlib.Numerals.{add-one}
 use lib.ListN.{length, get_or, drop, drop_of_length-le}
 use lib.Seq.{drop-cons}
 use borrow.Author.Tests.{le-leb, lt-leb, lt-ltb, le-ltb}
-use Rattle.words.specs.Words.{Read, number, end, fault, skip_from, digits_from, next_word}
+use Rattle.words.specs.Words.{number, end, fault, skip_from, digits_from, next_word}
 
 module _ (text : List ℕ) (i : ℕ) where
   pub skip-end : length text ≤ i → skip_from (drop i text) i ≡ i

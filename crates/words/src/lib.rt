@@ -1,4 +1,6 @@
 // Decimal numbers in a text, with blanks between them, and lines of numbers: how grammars and lists of cases are read.
+#![tactic(auto)]
+
 mod parts;
 mod scan;
 

@@ -3,7 +3,7 @@ ghost use Rattle.std.specs.Prelude.{◌≡◌, ◌^◌, ◌<◌, ◌≤◌, leng
 ghost use Rattle.words.specs.Words.{skip_from, digits_from, next_word, read_of};
 ghost use Rattle.words.specs.Lines.{fill_from, line_from, line_of, Fits};
 
-#[derive(Drop)]
+#[derive(Clone, Copy)]
 pub enum Word {
     // A number, and the place behind it.
     Number(u64, usize),
@@ -13,7 +13,7 @@ pub enum Word {
     Fault(usize),
 }
 
-#[derive(Drop)]
+#[derive(Clone, Copy)]
 pub enum Line {
     // How many numbers the line has, and the place behind it.
     Numbers(usize, usize),

@@ -1,0 +1,14 @@
+-- `begins32` compares the length, then the words. Assumes nothing.
+use mathlib.Core.Bool.{true}
+use mathlib.Core.Logic.{◌↔◌}
+use mathlib.Core.Path.{◌≡◌, subst}
+use native.Mathlib.Omega.{arith}
+use Rattle.words.proofs.BeginLaws.{begins-by}
+use Rattle.words.proofs.parts.begins32.Goals as goal
+
+pub returns : goal.returns
+returns c =
+    let a = c.args in
+    let e = c.part.ensures in
+    begins-by a.words.now a.slots.now (omega arith) (omega arith)
+    (subst (λ p. (c.same32.result ≡ true) ↔ (p ≡ a.slots.now)) e c.same32.ensures)
