@@ -1,30 +1,18 @@
 -- What an answer of `check_block` tells of the block. Assumes nothing.
-use mathlib.Core.List.{List, [], ◌∷◌}
-use mathlib.Core.Logic.{inl, inr}
+use mathlib.Core.List.{List}
 use mathlib.Core.Path.{◌≡◌, refl, sym, ap, ◌∙◌, subst}
 use Prim.Native.Nat.{ℕ}
 use native.Mathlib.Omega.{arith}
-use denote.Enum.Declared.{tag_of}
-use types.Run.{OneOf}
 use Rattle.block.specs.Block.{rules}
 use Rattle.block.specs.Refusal as refusal
 use Rattle.block.specs.Answer.{number_of, sizes_in}
 use Rattle.block.specs.declared.check.Sizes.{Sizes}
 use Rattle.block.specs.declared.check.Checked.{Checked}
 use Rattle.block.specs.declared.check.Checked.TheVariants.{Good, BadHeader, TooLarge, BadProduction, BadStart, BadSymbol, BadPrecedence}
-use Rattle.block.specs.contracts.check.Checked.{the_type}
 
 -- another answer than the good one has another number
-not-zero : (t : ℕ) → OneOf (1 ∷ 2 ∷ 3 ∷ 4 ∷ 5 ∷ 6 ∷ []) t → t ≡ 0 → ⊥
-not-zero t (inl h) e = omega (arith, h, e)
-not-zero t (inr (inl h)) e = omega (arith, h, e)
-not-zero t (inr (inr (inl h))) e = omega (arith, h, e)
-not-zero t (inr (inr (inr (inl h)))) e = omega (arith, h, e)
-not-zero t (inr (inr (inr (inr (inl h))))) e = omega (arith, h, e)
-not-zero t (inr (inr (inr (inr (inr h))))) e = omega (arith, h, e)
-
-pub ungood : (r : Checked) → OneOf (1 ∷ 2 ∷ 3 ∷ 4 ∷ 5 ∷ 6 ∷ []) (tag_of the_type r) → number_of r ≡ 0 → ⊥
-ungood (Good z) k e = not-zero 0 k refl
+pub ungood : (r : Checked) → ((z : Sizes) → r ≡ Good z → ⊥) → number_of r ≡ 0 → ⊥
+ungood (Good z) k e = k z refl
 ungood BadHeader k e = omega (arith, e)
 ungood TooLarge k e = omega (arith, e)
 ungood BadProduction k e = omega (arith, e)
