@@ -19,7 +19,7 @@ use Rattle.itemset.specs.Rows.{Row, row, words_of}
 use Rattle.itemset.specs.Goto.{sights_of, goto_of}
 use Rattle.itemset.proofs.Has.{Has, present-has}
 use Rattle.itemset.proofs.Members.{among-at}
-use Rattle.itemset.proofs.Sights.{sights-only}
+use Rattle.itemset.proofs.Sighting.{sights-only}
 use Rattle.itemset.proofs.Moves.{goto-has}
 use Rattle.listed_itemset.specs.Cases.{kernels_of, goto_words}
 

@@ -1,4 +1,6 @@
 // The listed cases of the crate `itemset`: closures and gotos.
+#![tactic(auto)]
+
 mod cases;
 
 pub use cases::closure_holds;
