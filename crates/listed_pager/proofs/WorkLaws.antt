@@ -1,10 +1,8 @@
 -- The words that a graph needs and leaves zero, by the ways there are. Assumes nothing.
-use mathlib.Core.List.{List, [], ◌∷◌}
+use mathlib.Core.List.{List}
 use mathlib.Core.Path.{◌≡◌, refl, sym, ap, ◌∙◌}
 use Prim.Native.Nat.{ℕ, ◌+◌, ◌*◌, ◌<◌, ◌≤◌}
 use native.Mathlib.Omega.{arith}
-use denote.Enum.Declared.{tag_of}
-use types.Run.{OneOf, miss}
 use borrow.Author.Tests.{le-leb, lt-leb, eq-eqb, ne_eqb}
 use Rattle.block.specs.Block.{prods, symbols}
 use Rattle.block.specs.Answer.{number_of, sizes_in}
@@ -16,7 +14,6 @@ use Rattle.listed_block.specs.Rooms.{ROOM, bounded_of}
 use Rattle.listed_pager.specs.Work.{of_good, work_of, zeros_of}
 use Rattle.listed_pager.specs.declared.work.Work.{Work}
 use Rattle.block.proofs.Good.{placed}
-use Rattle.block.specs.contracts.check.Checked.{the_type}
 
 -- ---- the words needed: by what `check_block` answered, and the bounded counts
 abbrev of : (marks closed kernel : ℕ) → Work
@@ -35,12 +32,9 @@ module _ (b : List ℕ) (n : ℕ) where
 within : (n : ℕ) → n ≤ ROOM → bounded_of n ≡ n
 within n h = omega arith
 
--- the tags of the answers other than good
-abbrev bad : List ℕ
-bad = 1 ∷ 2 ∷ 3 ∷ 4 ∷ 5 ∷ 6 ∷ []
-
-bad-number : (c : Checked) → OneOf bad (tag_of the_type c) → number_of c ≡ 0 → ⊥
-bad-number (checked.Good z) o e = miss bad 0 tt o
+-- an answer other than the good one has another number
+bad-number : (c : Checked) → ((z : Sizes) → c ≡ checked.Good z → ⊥) → number_of c ≡ 0 → ⊥
+bad-number (checked.Good z) o e = o z refl
 bad-number checked.BadHeader o e = omega arith
 bad-number checked.TooLarge o e = omega arith
 bad-number checked.BadProduction o e = omega arith
@@ -49,7 +43,7 @@ bad-number checked.BadSymbol o e = omega arith
 bad-number checked.BadPrecedence o e = omega arith
 
 module _ (b : List ℕ) (S m : ℕ) (h : m ≡ bounded_of S) where
-  pub work-bad : (c : Checked) → OneOf bad (tag_of the_type c) → number_of c ≡ refusal_of b → of (2 * m) 0 0 ≡ work_of b S
+  pub work-bad : (c : Checked) → ((z : Sizes) → c ≡ checked.Good z → ⊥) → number_of c ≡ refusal_of b → of (2 * m) 0 0 ≡ work_of b S
   work-bad c o e =
       let d : refusal_of b ≡ 0 → ⊥ = λ z. bad-number c o (e ∙ z) in
       same (ap (λ k. 2 * k) h) (of-bad b _ d) (of-bad b _ d)

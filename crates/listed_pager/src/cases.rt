@@ -12,7 +12,7 @@ use pager::{Graphed, graph};
 use words::{begins, begins32, behind, behind_three, index, narrow, numbers_begin, part};
 
 // What a case gives besides the block.
-#[derive(Drop)]
+#[derive(Clone, Copy)]
 struct Asked {
     // S states, I kernel items at most, and the fill.
     states: usize,

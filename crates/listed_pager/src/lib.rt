@@ -1,4 +1,6 @@
 // The listed cases of the crate `pager`: graphs.
+#![tactic(auto)]
+
 mod cases;
 mod work;
 

@@ -11,7 +11,7 @@ use listed_block::rooms::bounded;
 const MORE: usize = 7;
 
 // Words of the work room that a graph needs, and clears.
-#[derive(Drop)]
+#[derive(Clone, Copy)]
 pub struct Work {
     pub marks: usize,
     pub closed: usize,
