@@ -1,4 +1,6 @@
 // The listed cases of the crate `statetable`: builds and queries.
+#![tactic(auto)]
+
 mod builds;
 mod queries;
 mod tables;

@@ -1,0 +1,16 @@
+-- `lent_holds` parts the lengths from what is expected. Assumes nothing.
+use mathlib.Core.Path.{subst}
+use Prim.Native.Nat.{◌≤◌}
+use native.Mathlib.Omega.{arith}
+use Rattle.listed_block.specs.Rooms.{ROOM}
+use Rattle.listed_pager.specs.Work.{work_of}
+use Rattle.listed_statetable.proofs.BuildCases.{lent_by}
+use Rattle.listed_statetable.proofs.builds.lent_holds.Goals as goal
+
+pub returns : goal.returns
+returns c =
+    let w = c.work_of-work in
+    let a = c.args in
+    let room : (work_of a.block.now a.named.states).closed ≤ ROOM = subst (λ x. x.closed ≤ ROOM) w.ensures c.if-work-gt-ROOM.false in
+    lent_by a.block.now a.named a.fill a.rest.now (omega (arith, c.if-fill-gt4294967295.false)) c.if-rest-lt-LENGTHS.false room
+    c.built_holds.ensures
