@@ -1,4 +1,6 @@
 // The listed cases of the crate `machine`: runs.
+#![tactic(auto)]
+
 mod cases;
 
 pub use cases::run_holds;
