@@ -3,16 +3,12 @@ use mathlib.Core.Bool.{Bool, true, false}
 use mathlib.Core.List.{List, [], ◌∷◌}
 use mathlib.Core.Logic.{◌↔◌}
 use mathlib.Core.Path.{◌≡◌, refl, sym, ap, subst}
-use Prim.Native.Nat.{ℕ, zero, suc, ◌+◌, ◌-◌, ◌<◌, ◌≤◌}
+use Prim.Native.Nat.{ℕ, zero, suc, ◌-◌, ◌<◌, ◌≤◌}
 use native.Mathlib.Omega.{arith}
 use lib.ListN.{length, get_or, take, drop}
 use Rattle.words.proofs.Answers.{says-no}
 use Rattle.words.proofs.PartLaws.{part-tail}
 use Rattle.replay.specs.Lists.{asked, lists, CaseOf, RUNS, REFUSALS, RefusalCase, LineCase}
-
--- none of four numbers
-pub past-four : (n m : ℕ) → m ≤ n → (n ≡ m → ⊥) → (n ≡ m + 1 → ⊥) → (n ≡ m + 2 → ⊥) → (n ≡ m + 3 → ⊥) → m + 4 ≤ n
-past-four n m h a b c d = omega arith
 
 -- nothing is asked of a list behind the last
 none-asked : (Ps : List (List ℕ → Type 0)) (n : ℕ) (ws : List ℕ) → length Ps ≤ n → asked Ps n ws → ⊥

@@ -10,7 +10,6 @@ use Rattle.words.specs.declared.scan.Line.{Line}
 use Rattle.words.specs.declared.scan.Line.TheVariants as line
 use Rattle.replay.specs.Lists.{LineCase}
 use Rattle.replay.specs.Tally.{LINE, line_at, CaseIs, Counted, spent, ended, faulted, held, differed}
-use Rattle.replay.specs.declared.lines.Case.{Case}
 use Rattle.replay.specs.declared.lines.Case.TheVariants.{Holds, Differs, End, Fault}
 
 module _ (list : ℕ) (text : List ℕ) (k : ℕ) {r : Line} {out : List ℕ} (e : (line_of r, out) ≡ line_from text k (replicate LINE 0)) where
@@ -58,6 +57,3 @@ module _ (list : ℕ) (text : List ℕ) (t k c d : ℕ) (h : 0 < t) where
 pub moved : {list t c k k' d d' q a w : ℕ} {text : List ℕ} → k ≡ k' → d ≡ d' → Counted list text t k c d q a w → Counted list text t k' c d' q a w
 moved {list} {t} {c} {k} {k'} {d} {d'} {q} {a} {w} {text} e f n =
     subst (λ x. Counted list text t k' c x q a w) f (subst (λ x. Counted list text t x c d q a w) e n)
-
-pub read_as : (list : ℕ) (text : List ℕ) (k : ℕ) {x y : Case} → x ≡ y → CaseIs list text k x → CaseIs list text k y
-read_as list text k e h = subst (CaseIs list text k) e h

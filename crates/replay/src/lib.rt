@@ -1,5 +1,7 @@
 // Replays a list of cases from standard input: each line is one case, and every word that it expects is compared with
 // what the library answers. The lists and their form are the oracle's (oracle/lists/FORMAT.md).
+#![tactic(auto)]
+
 mod lines;
 mod lists;
 

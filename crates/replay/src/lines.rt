@@ -1,9 +1,11 @@
 // The lines of a list, from the first to the last.
-ghost use Rattle.std.specs.Prelude.{true, List, ◌↔◌, ◌≡◌, ℕ, length};
+ghost use Rattle.std.specs.Prelude.{true, List, ◌↔◌, ◌≡◌, ℕ, length, IfOk};
 ghost use Rattle.words.specs.Words.{end, next_word};
 ghost use Rattle.replay.specs.Tally.{CaseIs, TallyOf};
 
 use crate::lists::holds;
+use input::read_full;
+use std::io;
 use words::{Line, Word, next_line, next_word};
 
 // Most bytes of a list.
@@ -13,9 +15,9 @@ const TEXT: usize = 2097152;
 const LINE: usize = 16384;
 
 // Most differing lines that are told.
-const TOLD: u64 = 10;
+const TOLD: usize = 10;
 
-#[derive(Drop)]
+#[derive(Clone, Copy)]
 enum Case {
     // The case holds, and the place behind its line.
     Holds(usize),
@@ -26,7 +28,7 @@ enum Case {
 }
 
 // The cases of a text, those among them that differ, and whether only blanks stand behind them.
-#[derive(Drop)]
+#[derive(Clone, Copy)]
 pub struct Tally {
     pub cases: u64,
     pub differ: u64,
@@ -51,11 +53,6 @@ fn next_case(list: u64, text: &[u8], at: usize) -> Case
     }
 }
 
-fn tell(number: u64, what: &[u8]) {
-    io::print_decimal(1, number);
-    io::write_all(1, what);
-}
-
 // Whether only blanks follow.
 fn ends(text: &[u8], at: usize) -> bool
     ensures { (result ≡ true) ↔ (next_word text.now at ≡ end) }
@@ -67,7 +64,7 @@ fn ends(text: &[u8], at: usize) -> bool
     }
 }
 
-// Counts the cases up to the end or a fault, and tells the first that differ.
+// Counts the cases up to the end or a fault.
 pub fn count_cases(list: u64, text: &[u8]) -> Tally
     ensures { TallyOf list text.now result }
 {
@@ -82,15 +79,9 @@ pub fn count_cases(list: u64, text: &[u8]) -> Tally
             Case::Differs(place) => {
                 at = place;
                 differ += 1;
-                if differ <= TOLD {
-                    tell(cases + 1, b" differs\n");
-                }
             }
             Case::End => break,
-            Case::Fault(place) => {
-                tell(place as u64, b" is the place of a fault\n");
-                break;
-            }
+            Case::Fault(_) => break,
         }
         cases += 1;
         left -= 1;
@@ -102,6 +93,30 @@ pub fn count_cases(list: u64, text: &[u8]) -> Tally
     }
 }
 
+// Tells the first lines that differ, and the place of a fault.
+fn tell_wrong(rt: &impl Print, list: u64, text: &[u8]) -> io::Result<()> {
+    let mut from = 0;
+    let mut told = 0;
+    for i in 0..text.len() {
+        match next_case(list, text, from) {
+            Case::Holds(next) => from = next,
+            Case::Differs(next) => {
+                from = next;
+                if told < TOLD {
+                    println!(rt; "{} differs", i + 1)?;
+                    told += 1;
+                }
+            }
+            Case::End => break,
+            Case::Fault(place) => {
+                println!(rt; "{place} is the place of a fault")?;
+                break;
+            }
+        }
+    }
+    Ok(())
+}
+
 // Room for a list's text. The length is told since lending the array needs it.
 fn text_room() -> [u8; TEXT]
     ensures { 2097152 ≡ length result }
@@ -109,19 +124,22 @@ fn text_room() -> [u8; TEXT]
     [0; TEXT]
 }
 
-// Replays the list of that number, and tells its name, how many cases it has, how many of them differ, and whether it was
-// not read whole. No contract can name the text that is read: the tally of any would do. What is proved is `count_cases`.
-pub fn replay(name: &[u8], list: u64) -> Tally
-    ensures { (text : List ℕ) × TallyOf list text result }
+// Replays the list of that number, and tells its name, the first lines that differ, how many cases it has, how many of them
+// differ, and whether it was not read whole. No contract can name the text that is read: the tally of any would do. What is
+// proved is `count_cases`. An error is one of reading or printing.
+pub fn replay<R: Input + Print>(rt: &R, name: &[u8], list: u64) -> io::Result<Tally>
+    ensures { IfOk result (λ r. (text : List ℕ) × TallyOf list text r) }
 {
-    io::write_all(1, name);
+    rt.write_all(name)?;
     let mut text = text_room();
-    let n = io::read_full(0, &mut text);
-    let r = count_cases(list, &text[..n]);
-    tell(r.cases, b" cases, ");
-    tell(r.differ, b" differ\n");
-    if !r.whole {
-        io::write_all(1, b"not read whole\n");
+    let n = read_full(&mut rt.reader(), &mut text)?;
+    let tally = count_cases(list, &text[..n]);
+    if tally.differ != 0 || !tally.whole {
+        tell_wrong(rt, list, &text[..n])?;
     }
-    r
+    println!(rt; "{} cases, {} differ", tally.cases, tally.differ)?;
+    if !tally.whole {
+        println!(rt; "not read whole")?;
+    }
+    Ok(tally)
 }
