@@ -1,4 +1,9 @@
 // Replays a short list of bodies that was damaged in its second to sixth line and at its end: what differs is told.
-fn main() {
-    replay::replay(b"damaged: ", replay::BODIES);
+#![tactic(auto)]
+
+use std::io;
+
+fn main(rt: HostRuntime) -> io::Result<()> {
+    replay::replay(&rt, b"damaged: ", replay::BODIES)?;
+    Ok(())
 }

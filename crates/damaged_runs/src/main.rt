@@ -1,5 +1,10 @@
 // Replays a short list of runs, with an answer of each kind, that was damaged in its ninth line and those behind it:
 // what differs is told.
-fn main() {
-    replay::replay(b"damaged runs: ", replay::RUNS);
+#![tactic(auto)]
+
+use std::io;
+
+fn main(rt: HostRuntime) -> io::Result<()> {
+    replay::replay(&rt, b"damaged runs: ", replay::RUNS)?;
+    Ok(())
 }

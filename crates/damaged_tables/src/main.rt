@@ -1,5 +1,10 @@
 // Replays a short list of tables, four of them refused, that was damaged in its seventh line and those behind it: what
 // differs is told.
-fn main() {
-    replay::replay(b"damaged tables: ", replay::TABLES);
+#![tactic(auto)]
+
+use std::io;
+
+fn main(rt: HostRuntime) -> io::Result<()> {
+    replay::replay(&rt, b"damaged tables: ", replay::TABLES)?;
+    Ok(())
 }

@@ -1,4 +1,9 @@
 // Replays the list of blocks.
-fn main() {
-    replay::replay(b"blocks: ", replay::BLOCKS);
+#![tactic(auto)]
+
+use std::io;
+
+fn main(rt: HostRuntime) -> io::Result<()> {
+    replay::replay(&rt, b"blocks: ", replay::BLOCKS)?;
+    Ok(())
 }

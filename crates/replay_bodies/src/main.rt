@@ -1,4 +1,9 @@
 // Replays the list of bodies.
-fn main() {
-    replay::replay(b"bodies: ", replay::BODIES);
+#![tactic(auto)]
+
+use std::io;
+
+fn main(rt: HostRuntime) -> io::Result<()> {
+    replay::replay(&rt, b"bodies: ", replay::BODIES)?;
+    Ok(())
 }

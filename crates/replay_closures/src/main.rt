@@ -1,4 +1,9 @@
 // Replays the list of closures.
-fn main() {
-    replay::replay(b"closures: ", replay::CLOSURES);
+#![tactic(auto)]
+
+use std::io;
+
+fn main(rt: HostRuntime) -> io::Result<()> {
+    replay::replay(&rt, b"closures: ", replay::CLOSURES)?;
+    Ok(())
 }

@@ -1,4 +1,9 @@
 // Replays the list of firsts.
-fn main() {
-    replay::replay(b"firsts: ", replay::FIRSTS);
+#![tactic(auto)]
+
+use std::io;
+
+fn main(rt: HostRuntime) -> io::Result<()> {
+    replay::replay(&rt, b"firsts: ", replay::FIRSTS)?;
+    Ok(())
 }

@@ -1,4 +1,9 @@
 // Replays the list of graphs.
-fn main() {
-    replay::replay(b"graphs: ", replay::GRAPHS);
+#![tactic(auto)]
+
+use std::io;
+
+fn main(rt: HostRuntime) -> io::Result<()> {
+    replay::replay(&rt, b"graphs: ", replay::GRAPHS)?;
+    Ok(())
 }

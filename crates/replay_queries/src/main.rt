@@ -1,4 +1,9 @@
 // Replays the list of queries.
-fn main() {
-    replay::replay(b"queries: ", replay::QUERIES);
+#![tactic(auto)]
+
+use std::io;
+
+fn main(rt: HostRuntime) -> io::Result<()> {
+    replay::replay(&rt, b"queries: ", replay::QUERIES)?;
+    Ok(())
 }

@@ -1,4 +1,9 @@
 // Replays the list of refusals.
-fn main() {
-    replay::replay(b"refusals: ", replay::REFUSALS);
+#![tactic(auto)]
+
+use std::io;
+
+fn main(rt: HostRuntime) -> io::Result<()> {
+    replay::replay(&rt, b"refusals: ", replay::REFUSALS)?;
+    Ok(())
 }

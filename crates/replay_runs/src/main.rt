@@ -1,4 +1,9 @@
 // Replays the list of runs.
-fn main() {
-    replay::replay(b"runs: ", replay::RUNS);
+#![tactic(auto)]
+
+use std::io;
+
+fn main(rt: HostRuntime) -> io::Result<()> {
+    replay::replay(&rt, b"runs: ", replay::RUNS)?;
+    Ok(())
 }

@@ -1,4 +1,9 @@
 // Replays the list of tables.
-fn main() {
-    replay::replay(b"tables: ", replay::TABLES);
+#![tactic(auto)]
+
+use std::io;
+
+fn main(rt: HostRuntime) -> io::Result<()> {
+    replay::replay(&rt, b"tables: ", replay::TABLES)?;
+    Ok(())
 }
