@@ -1,54 +1,52 @@
 // The blocks of document 01's samples: what the check says of each, and its right sides.
+#![tactic(auto)]
+
 use block::{body, body_refusal, check_block, number};
+use std::io;
 
-fn tell_word(word: u32) {
-    io::write_all(1, b" ");
-    io::print_decimal(1, word as u64);
+fn tell_word(rt: &impl Print, word: u32) -> io::Result<()> {
+    print!(rt; " {word}")
 }
 
-fn tell_words(words: &[u32]) {
-    let mut i = 0;
-    while i < words.len() {
-        tell_word(words[i]);
-        i += 1;
+fn tell_words(rt: &impl Print, words: &[u32]) -> io::Result<()> {
+    for word in words {
+        tell_word(rt, *word)?;
     }
+    Ok(())
 }
 
-fn tell(refusal: u32) {
+fn tell(rt: &impl Print, refusal: u32) -> io::Result<()> {
     if refusal == 0 {
-        io::write_all(1, b" good");
+        print!(rt; " good")
     } else {
-        tell_word(refusal);
+        tell_word(rt, refusal)
     }
 }
 
 // The number of production p's query, and its right side.
-fn tell_body(block: &[u32], p: usize) {
-    io::write_all(1, b"  ");
-    io::print_decimal(1, p as u64);
-    io::write_all(1, b":");
-    tell(body_refusal(block, p));
-    tell_words(body(block, p));
-    io::write_all(1, b"\n");
+fn tell_body(rt: &impl Print, block: &[u32], p: usize) -> io::Result<()> {
+    print!(rt; "  {p}:")?;
+    tell(rt, body_refusal(block, p))?;
+    tell_words(rt, body(block, p))?;
+    println!(rt; "")
 }
 
 // The productions of G1, and one that it does not have.
-fn show(name: &[u8], block: &[u32]) {
-    io::write_all(1, name);
-    io::write_all(1, b":");
-    tell(number(check_block(block)));
-    io::write_all(1, b"\n");
-    tell_body(block, 0);
-    tell_body(block, 1);
-    tell_body(block, 2);
+fn show(rt: &impl Print, name: &str, block: &[u32]) -> io::Result<()> {
+    print!(rt; "{name}:")?;
+    tell(rt, number(check_block(block)))?;
+    println!(rt; "")?;
+    tell_body(rt, block, 0)?;
+    tell_body(rt, block, 1)?;
+    tell_body(rt, block, 2)
 }
 
-fn main() {
+fn main(rt: HostRuntime) -> io::Result<()> {
     let mut g1 = [
         2u32, 2, 2, 2, 1, 0, 9, 17, 19, 0, 0, 1, 0, 1, 1, 1, 0, 2, 1, 0, 0,
     ];
-    show(b"G1", &g1);
-    show(b"G1 with 20 words", &g1[..20]);
+    show(&rt, "G1", &g1)?;
+    show(&rt, "G1 with 20 words", &g1[..20])?;
     g1[0] = 257;
-    show(b"G1 with T = 257", &g1);
+    show(&rt, "G1 with T = 257", &g1)
 }
