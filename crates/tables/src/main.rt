@@ -1,30 +1,34 @@
 // Reads a grammar block as decimal words from standard input and prints its tables, one item a line.
-// A program has no status to end with, so a text that is no block is told on standard output too.
+// A text that is no block is told on standard output too.
+#![tactic(auto)]
+
 mod reading;
 mod rooms;
 mod telling;
 
+use input::read_full;
 use reading::{TEXT, Taken, block_room, take_block, text_room};
 use rooms::tell_tables;
+use std::io;
 use telling::tell;
 
 // The block that the text spells, or the place where it spells none.
-fn tell_text(text: &[u8]) {
+fn tell_text(rt: &impl Print, text: &[u8]) -> io::Result<()> {
     let mut words = block_room();
     match take_block(text, &mut words) {
-        Taken::Words(n) => tell_tables(&words[..n]),
-        Taken::NoWord(place) => tell(b"no word at byte ", place),
-        Taken::NoRoom(place) => tell(b"no room for the word at byte ", place),
+        Taken::Words(n) => tell_tables(rt, &words[..n]),
+        Taken::NoWord(place) => tell(rt, b"no word at byte ", place),
+        Taken::NoRoom(place) => tell(rt, b"no room for the word at byte ", place),
     }
 }
 
-fn main() {
+fn main(rt: HostRuntime) -> io::Result<()> {
     let mut text = text_room();
-    let n = io::read_full(0, &mut text);
+    let n = read_full(&mut rt.reader(), &mut text)?;
     if n == TEXT {
         // The rest of it may not have been read.
-        tell(b"no room for the text at byte ", n);
+        tell(&rt, b"no room for the text at byte ", n)
     } else {
-        tell_text(&text[..n]);
+        tell_text(&rt, &text[..n])
     }
 }

@@ -15,7 +15,7 @@ pub const TEXT: usize = 131072;
 // The largest word.
 const MOST: u64 = 4294967295;
 
-#[derive(Drop)]
+#[derive(Clone, Copy)]
 pub enum Taken {
     // How many words.
     Words(usize),

@@ -7,6 +7,7 @@ use block::limits::{HEADER, ITEM, PRODS, SYMBOLS};
 use block::word;
 use statetable::limits::{RR, SR};
 use statetable::{Named, build};
+use std::io;
 
 // Most states that are named.
 const STATES: usize = 1024;
@@ -69,7 +70,7 @@ fn named(block: &[u32]) -> Named {
 }
 
 // Builds the block's tables and tells them.
-pub fn tell_tables(block: &[u32]) {
+pub fn tell_tables(rt: &impl Print, block: &[u32]) -> io::Result<()> {
     let mut items = row_room();
     let mut spans = [0u32; SPANS];
     let mut edges = table_room();
@@ -102,5 +103,5 @@ pub fn tell_tables(block: &[u32]) {
         &mut closed,
         &mut kernel,
     );
-    tell_answer(block, answer, &actions, &gotos, &rr, &sr);
+    tell_answer(rt, block, answer, &actions, &gotos, &rr, &sr)
 }

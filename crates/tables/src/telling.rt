@@ -2,25 +2,23 @@
 use block::word;
 use statetable::limits::{RR, SR};
 use statetable::{Counts, StateTable};
+use std::io;
 
 // A line: what it is, and its number.
-pub fn tell(what: &[u8], number: usize) {
-    io::write_all(1, what);
-    io::print_decimal(1, number as u64);
-    io::write_all(1, b"\n");
+pub fn tell(rt: &impl Print, what: &[u8], number: usize) -> io::Result<()> {
+    rt.write_all(what)?;
+    println!(rt; "{number}")
 }
 
-fn tell_word(word: u32) {
-    io::write_all(1, b" ");
-    io::print_decimal(1, word as u64);
+fn tell_word(rt: &impl Print, word: u32) -> io::Result<()> {
+    print!(rt; " {word}")
 }
 
-fn tell_words(words: &[u32]) {
-    let mut i = 0;
-    while i < words.len() {
-        tell_word(words[i]);
-        i += 1;
+fn tell_words(rt: &impl Print, words: &[u32]) -> io::Result<()> {
+    for word in words {
+        tell_word(rt, *word)?;
     }
+    Ok(())
 }
 
 // Row i of rows of that width; empty where it does not stand whole.
@@ -36,86 +34,81 @@ fn row(table: &[u32], width: usize, i: usize) -> &[u32] {
 }
 
 // Each state: its cells by token, then its gotos by rule.
-fn tell_states(block: &[u32], states: usize, actions: &[u32], gotos: &[u32]) {
+fn tell_states(
+    rt: &impl Print,
+    block: &[u32],
+    states: usize,
+    actions: &[u32],
+    gotos: &[u32],
+) -> io::Result<()> {
     if block.len() < 2 {
-        return;
+        return Ok(());
     }
     let tokens = word(block, 0);
     let rules = word(block, 1);
-    let mut s = 0;
-    while s < states {
-        io::write_all(1, b"state ");
-        io::print_decimal(1, s as u64);
-        io::write_all(1, b":");
-        tell_words(row(actions, tokens, s));
-        io::write_all(1, b" /");
-        tell_words(row(gotos, rules, s));
-        io::write_all(1, b"\n");
-        s += 1;
+    for s in 0..states {
+        print!(rt; "state {s}:")?;
+        tell_words(rt, row(actions, tokens, s))?;
+        print!(rt; " /")?;
+        tell_words(rt, row(gotos, rules, s))?;
+        println!(rt; "")?;
     }
+    Ok(())
 }
 
 // The records of a list, so many, of that width.
-fn tell_records(what: &[u8], list: &[u32], width: usize, records: usize) {
-    let mut i = 0;
-    while i < records {
-        io::write_all(1, what);
-        tell_words(row(list, width, i));
-        io::write_all(1, b"\n");
-        i += 1;
+fn tell_records(
+    rt: &impl Print,
+    what: &str,
+    list: &[u32],
+    width: usize,
+    records: usize,
+) -> io::Result<()> {
+    for i in 0..records {
+        print!(rt; "{what}")?;
+        tell_words(rt, row(list, width, i))?;
+        println!(rt; "")?;
     }
+    Ok(())
 }
 
-fn tell_counts(counts: Counts) {
-    tell(b"states ", counts.states);
-    tell(b"items ", counts.items);
-    tell(b"states before collection ", counts.before);
-    tell(b"reduce/reduce records ", counts.rr);
-    tell(b"shift/reduce records ", counts.sr);
-    tell(b"settled by precedence ", counts.count);
+fn tell_counts(rt: &impl Print, counts: Counts) -> io::Result<()> {
+    tell(rt, b"states ", counts.states)?;
+    tell(rt, b"items ", counts.items)?;
+    tell(rt, b"states before collection ", counts.before)?;
+    tell(rt, b"reduce/reduce records ", counts.rr)?;
+    tell(rt, b"shift/reduce records ", counts.sr)?;
+    tell(rt, b"settled by precedence ", counts.count)
 }
 
 // The number of a refusal and the values that it gives.
-fn tell_refusal(answer: StateTable) {
-    io::write_all(1, b"refused");
+fn tell_refusal(rt: &impl Print, answer: StateTable) -> io::Result<()> {
     match answer {
-        StateTable::Made(_) => {}
-        StateTable::Refused(n) => tell_word(n),
-        StateTable::AcceptSome(there, start) => {
-            tell_word(11);
-            tell_word(there);
-            tell_word(start);
-        }
-        StateTable::AcceptNone(coming) => {
-            tell_word(11);
-            io::write_all(1, b" none");
-            tell_word(coming);
-        }
+        StateTable::Made(_) => println!(rt; "refused"),
+        StateTable::Refused(n) => println!(rt; "refused {n}"),
+        StateTable::AcceptSome(there, start) => println!(rt; "refused 11 {there} {start}"),
+        StateTable::AcceptNone(coming) => println!(rt; "refused 11 none {coming}"),
         StateTable::MixedKinds(token, production, state) => {
-            tell_word(12);
-            tell_word(token);
-            tell_word(production);
-            tell_word(state);
+            println!(rt; "refused 12 {token} {production} {state}")
         }
     }
-    io::write_all(1, b"\n");
 }
 
 // The whole answer: counts, a line for each state and each record, or the refusal.
 pub fn tell_answer(
+    rt: &impl Print,
     block: &[u32],
     answer: StateTable,
     actions: &[u32],
     gotos: &[u32],
     rr: &[u32],
     sr: &[u32],
-) {
+) -> io::Result<()> {
     let StateTable::Made(counts) = answer else {
-        tell_refusal(answer);
-        return;
+        return tell_refusal(rt, answer);
     };
-    tell_counts(counts);
-    tell_states(block, counts.states, actions, gotos);
-    tell_records(b"reduce/reduce", rr, RR, counts.rr);
-    tell_records(b"shift/reduce", sr, SR, counts.sr);
+    tell_counts(rt, counts)?;
+    tell_states(rt, block, counts.states, actions, gotos)?;
+    tell_records(rt, "reduce/reduce", rr, RR, counts.rr)?;
+    tell_records(rt, "shift/reduce", sr, SR, counts.sr)
 }
