@@ -2,10 +2,8 @@
 use mathlib.Core.List.{[], ◌∷◌}
 use mathlib.Core.Path.{◌≡◌, refl}
 use lib.ListN.{replicate}
-use Rattle.block.specs.Block.{tokens, rules, prods}
 use Rattle.pager.specs.Lists.{is, refused}
-use Rattle.machine.specs.Call.{Verdict}
-use Rattle.cases.specs.Line.{judged, right, named, left, spared, graphed, sizes, counts, lent, built, one, asked, run, ran}
+use Rattle.cases.specs.Line.{named, left, spared, graphed, sizes, counts, lent, built}
 
 pub line-427 :
     built (3 ∷ 2 ∷ 3 ∷ 5 ∷ 2 ∷ 0 ∷ 9 ∷ 21 ∷ 26 ∷ 0 ∷ 0 ∷ 1 ∷ 0 ∷ 1 ∷ 1 ∷ 3 ∷ 5 ∷ 1 ∷ 4 ∷ 1 ∷ 0 ∷ 2 ∷ 2 ∷ 1 ∷ 2 ∷ 3 ∷ 9 ∷ 0 ∷ 0 ∷ []) (sizes 5 6 0 0) (lent 7 31 10 25 10 40 25 15 11 16 17 16 7 2 2)

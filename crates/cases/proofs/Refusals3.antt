@@ -4,8 +4,7 @@ use mathlib.Core.Path.{◌≡◌, refl}
 use lib.ListN.{replicate}
 use Rattle.block.specs.Block.{tokens, rules, prods}
 use Rattle.pager.specs.Lists.{is, refused}
-use Rattle.machine.specs.Call.{Verdict}
-use Rattle.cases.specs.Line.{judged, right, named, left, spared, graphed, sizes, counts, lent, built, one, asked, run, ran}
+use Rattle.cases.specs.Line.{sizes, lent, built, one, asked}
 
 pub line-1016 :
     built (2 ∷ 2 ∷ 2 ∷ 2 ∷ 1 ∷ 0 ∷ 9 ∷ 17 ∷ 19 ∷ 2 ∷ 0 ∷ 1 ∷ 0 ∷ 1 ∷ 1 ∷ 1 ∷ 0 ∷ 2 ∷ 1 ∷ 0 ∷ 0 ∷ []) (sizes 3 3 0 0) (lent 4294967295 15 6 12 1 2 3 6 6 6 6 6 3 0 0)

@@ -1,11 +1,10 @@
 -- Lines of oracle/lists/refusals.txt, each proved by computing the definitions; a law has the number of its line. Written by tools/cases. Assumes nothing.
 use mathlib.Core.List.{[], ◌∷◌}
 use mathlib.Core.Path.{◌≡◌, refl}
-use lib.ListN.{replicate}
-use Rattle.block.specs.Block.{tokens, rules, prods}
+use Rattle.block.specs.Block.{tokens}
 use Rattle.pager.specs.Lists.{is, refused}
 use Rattle.machine.specs.Call.{Verdict}
-use Rattle.cases.specs.Line.{judged, right, named, left, spared, graphed, sizes, counts, lent, built, one, asked, run, ran}
+use Rattle.cases.specs.Line.{one, asked, run, ran}
 
 pub line-1093 :
     asked one (3 ∷ 2 ∷ 3 ∷ 5 ∷ 2 ∷ 0 ∷ 9 ∷ 21 ∷ 26 ∷ 0 ∷ 0 ∷ 1 ∷ 0 ∷ 1 ∷ 1 ∷ 3 ∷ 0 ∷ 1 ∷ 4 ∷ 1 ∷ 0 ∷ 2 ∷ 2 ∷ 1 ∷ 2 ∷ 3 ∷ 0 ∷ 0 ∷ 0 ∷ []) 6 (100 ∷ 101 ∷ 102 ∷ 103 ∷ 104 ∷ []) 0 0

@@ -1,11 +1,9 @@
 -- Lines of oracle/lists/runs.txt, each proved by computing the definitions; a law has the number of its line. Written by tools/cases. Assumes nothing.
 use mathlib.Core.List.{[], ◌∷◌}
 use mathlib.Core.Path.{◌≡◌, refl}
-use lib.ListN.{replicate}
-use Rattle.block.specs.Block.{tokens, rules, prods}
 use Rattle.pager.specs.Lists.{is, refused}
 use Rattle.machine.specs.Call.{Verdict}
-use Rattle.cases.specs.Line.{judged, right, named, left, spared, graphed, sizes, counts, lent, built, one, asked, run, ran}
+use Rattle.cases.specs.Line.{run, ran}
 
 pub line-18 :
     ran (2 ∷ 2 ∷ 2 ∷ 2 ∷ 1 ∷ 0 ∷ 9 ∷ 17 ∷ 19 ∷ 0 ∷ 0 ∷ 1 ∷ 0 ∷ 1 ∷ 1 ∷ 1 ∷ 0 ∷ 2 ∷ 1 ∷ 0 ∷ 0 ∷ []) 3 (9 ∷ 0 ∷ 0 ∷ 3 ∷ 0 ∷ 6 ∷ []) (0 ∷ 2 ∷ 0 ∷ 0 ∷ 0 ∷ 0 ∷ []) (1 ∷ []) 2 9 3 2

@@ -1,11 +1,9 @@
 -- Lines of oracle/lists/runs.txt, each proved by computing the definitions; a law has the number of its line. Written by tools/cases. Assumes nothing.
 use mathlib.Core.List.{[], ◌∷◌}
 use mathlib.Core.Path.{◌≡◌, refl}
-use lib.ListN.{replicate}
-use Rattle.block.specs.Block.{tokens, rules, prods}
-use Rattle.pager.specs.Lists.{is, refused}
+use Rattle.pager.specs.Lists.{is}
 use Rattle.machine.specs.Call.{Verdict}
-use Rattle.cases.specs.Line.{judged, right, named, left, spared, graphed, sizes, counts, lent, built, one, asked, run, ran}
+use Rattle.cases.specs.Line.{run, ran}
 
 pub line-1373 :
     ran (2 ∷ 3 ∷ 6 ∷ 11 ∷ 0 ∷ 5 ∷ 9 ∷ 33 ∷ 44 ∷ 1 ∷ 0 ∷ 2 ∷ 0 ∷ 1 ∷ 2 ∷ 1 ∷ 6 ∷ 2 ∷ 3 ∷ 3 ∷ 0 ∷ 2 ∷ 6 ∷ 1 ∷ 11 ∷ 1 ∷ 7 ∷ 3 ∷ 7 ∷ 0 ∷ 10 ∷ 1 ∷ 0 ∷ 2 ∷ 3 ∷ 3 ∷ 3 ∷ 3 ∷ 3 ∷ 2 ∷ 4 ∷ 2 ∷ 2 ∷ 4 ∷ 0 ∷ 2 ∷ []) 11 (0 ∷ 9 ∷ 14 ∷ 14 ∷ 6 ∷ 6 ∷ 3 ∷ 9 ∷ 2 ∷ 2 ∷ 0 ∷ 33 ∷ 0 ∷ 14 ∷ 0 ∷ 9 ∷ 10 ∷ 10 ∷ 18 ∷ 14 ∷ 6 ∷ 21 ∷ []) (0 ∷ 2 ∷ 4 ∷ 0 ∷ 0 ∷ 0 ∷ 0 ∷ 0 ∷ 0 ∷ 0 ∷ 7 ∷ 8 ∷ 0 ∷ 0 ∷ 0 ∷ 0 ∷ 0 ∷ 0 ∷ 0 ∷ 10 ∷ 8 ∷ 0 ∷ 7 ∷ 8 ∷ 0 ∷ 0 ∷ 0 ∷ 0 ∷ 0 ∷ 0 ∷ 0 ∷ 0 ∷ 0 ∷ []) (1 ∷ 1 ∷ 1 ∷ 1 ∷ 1 ∷ []) 15 9 8 11

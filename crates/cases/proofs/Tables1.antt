@@ -2,10 +2,8 @@
 use mathlib.Core.List.{[], ◌∷◌}
 use mathlib.Core.Path.{◌≡◌, refl}
 use lib.ListN.{replicate}
-use Rattle.block.specs.Block.{tokens, rules, prods}
 use Rattle.pager.specs.Lists.{is, refused}
-use Rattle.machine.specs.Call.{Verdict}
-use Rattle.cases.specs.Line.{judged, right, named, left, spared, graphed, sizes, counts, lent, built, one, asked, run, ran}
+use Rattle.cases.specs.Line.{sizes, counts, lent, built}
 
 pub line-9 :
     built (3 ∷ 2 ∷ 3 ∷ 5 ∷ 2 ∷ 0 ∷ 9 ∷ 21 ∷ 26 ∷ 0 ∷ 0 ∷ 1 ∷ 0 ∷ 1 ∷ 1 ∷ 3 ∷ 5 ∷ 1 ∷ 4 ∷ 1 ∷ 0 ∷ 2 ∷ 2 ∷ 1 ∷ 2 ∷ 3 ∷ 9 ∷ 0 ∷ 0 ∷ []) (sizes 6 8 2 2) (lent 4294967295 42 14 31 12 40 25 19 14 19 20 19 8 9 8)

@@ -2,10 +2,8 @@
 use mathlib.Core.List.{[], ◌∷◌}
 use mathlib.Core.Path.{◌≡◌, refl}
 use lib.ListN.{replicate}
-use Rattle.block.specs.Block.{tokens, rules, prods}
 use Rattle.pager.specs.Lists.{is, refused}
-use Rattle.machine.specs.Call.{Verdict}
-use Rattle.cases.specs.Line.{judged, right, named, left, spared, graphed, sizes, counts, lent, built, one, asked, run, ran}
+use Rattle.cases.specs.Line.{sizes, counts, lent, built}
 
 pub line-288 :
     built (3 ∷ 2 ∷ 5 ∷ 10 ∷ 2 ∷ 3 ∷ 9 ∷ 29 ∷ 39 ∷ 0 ∷ 0 ∷ 3 ∷ 1 ∷ 0 ∷ 3 ∷ 1 ∷ 1 ∷ 0 ∷ 4 ∷ 2 ∷ 6 ∷ 1 ∷ 6 ∷ 1 ∷ 0 ∷ 0 ∷ 7 ∷ 3 ∷ 6 ∷ 0 ∷ 0 ∷ 3 ∷ 3 ∷ 3 ∷ 3 ∷ 0 ∷ 1 ∷ 0 ∷ 1 ∷ 11 ∷ 6 ∷ 0 ∷ []) (sizes 10 18 2 0) (lent 7 92 20 51 20 75 50 31 21 30 32 51 11 8 1)

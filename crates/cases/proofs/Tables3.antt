@@ -2,10 +2,8 @@
 use mathlib.Core.List.{[], ◌∷◌}
 use mathlib.Core.Path.{◌≡◌, refl}
 use lib.ListN.{replicate}
-use Rattle.block.specs.Block.{tokens, rules, prods}
 use Rattle.pager.specs.Lists.{is, refused}
-use Rattle.machine.specs.Call.{Verdict}
-use Rattle.cases.specs.Line.{judged, right, named, left, spared, graphed, sizes, counts, lent, built, one, asked, run, ran}
+use Rattle.cases.specs.Line.{sizes, counts, lent, built}
 
 pub line-600 :
     built (2 ∷ 2 ∷ 1 ∷ 1 ∷ 1 ∷ 0 ∷ 9 ∷ 13 ∷ 14 ∷ 0 ∷ 0 ∷ 1 ∷ 0 ∷ 2 ∷ 0 ∷ 0 ∷ []) (sizes 2 3 2 1) (lent 4294967295 16 5 8 4 10 5 5 6 6 6 4 2 8 3)
