@@ -1,7 +1,6 @@
 -- Each answer can be read back from what the contract says of it; so two that the contract allows coincide. Assumes nothing.
-use mathlib.Core.Bool.{Bool, true, false}
+use mathlib.Core.Bool.{true, false}
 use mathlib.Core.List.{List, [], ◌∷◌}
-use mathlib.Core.Logic.{◌↔◌}
 use mathlib.Core.Path.{◌≡◌, refl, sym, ap, ◌∙◌}
 use Prim.Native.Nat.{ℕ, zero, suc}
 use Rattle.knuth.specs.Tables as theory
@@ -15,9 +14,7 @@ use Rattle.statetable.specs.Queries.{found_of, acted_of}
 use Rattle.statetable.specs.declared.cell.Action.{Action}
 use Rattle.statetable.specs.declared.cell.Action.TheVariants.{Error, Shift, Reduce, Accept}
 use Rattle.statetable.specs.declared.queries.Found.{Found}
-use Rattle.statetable.specs.declared.queries.Found.TheVariants as Found
 use Rattle.statetable.specs.declared.queries.Acts.{Acts}
-use Rattle.statetable.specs.declared.queries.Acts.TheVariants as Acts
 use Rattle.demand3.specs.Unique.{ClaimChecked, ClaimDecode, ClaimFound, ClaimActs, ClaimSet, ClaimYes, ClaimRows, ClaimSights}
 
 -- ---- `check_block`

@@ -1,6 +1,6 @@
 -- What document 01's samples ask of the calls `build` and `run`, and what is seen then: what their contracts say of answer and buffers.
 -- Assumes nothing.
-use Rattle.std.specs.Prelude.{List, [], ℕ, ◌+◌, ◌*◌, length, get_or, take, replicate}
+use Rattle.std.specs.Prelude.{List, ℕ, ◌+◌, ◌*◌, length, get_or, take, replicate}
 use Rattle.block.specs.Block.{tokens, rules, prods}
 use Rattle.pager.specs.Lists.{Answer, is, refused}
 use Rattle.pager.specs.Call as graph
