@@ -16,16 +16,14 @@ use pager::graph;
 use statetable::{Named, build};
 
 // The number of the refusal of a block: 1 to 6, or 0 for a good block.
-#[unsafe(no_mangle)]
-pub extern "C" fn timkerzal_check(block: &[u32]) -> u32
+pub fn timkerzal_check(block: &[u32]) -> u32
     ensures { result ≡ refusal_of block.now }
 {
     number(check_block(block))
 }
 
 // Graph and tables of any block, with the rooms that the caller names.
-#[unsafe(no_mangle)]
-pub extern "C" fn timkerzal_build(
+pub fn timkerzal_build(
     block: &[u32],
     states: usize,
     most: usize,
@@ -67,8 +65,7 @@ pub extern "C" fn timkerzal_build(
 }
 
 // The graph alone of any block.
-#[unsafe(no_mangle)]
-pub extern "C" fn timkerzal_graph(
+pub fn timkerzal_graph(
     block: &[u32],
     states: usize,
     most: usize,
@@ -93,8 +90,7 @@ pub extern "C" fn timkerzal_graph(
 }
 
 // The machine on any block, tables and input, in at most `limit` steps.
-#[unsafe(no_mangle)]
-pub extern "C" fn timkerzal_run(
+pub fn timkerzal_run(
     block: &[u32],
     states: usize,
     actions: &[u32],

@@ -1,4 +1,6 @@
-// The entry points, exported for C and Rust by `rt staticlib timkerzal`; include/timkerzal.h declares them.
+// The entry points, each with its answer in words; the crate timkerzal_c exports them for C and Rust.
+#![tactic(auto)]
+
 mod calls;
 mod queries;
 mod words;
@@ -9,3 +11,4 @@ pub use queries::{
     timkerzal_cell, timkerzal_core, timkerzal_edge, timkerzal_goto, timkerzal_offered,
     timkerzal_only, timkerzal_shift,
 };
+pub use words::{ACTS, BUILT, FOUND, GRAPHED, RAN};

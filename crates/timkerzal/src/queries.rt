@@ -10,24 +10,21 @@ use block::{body, body_refusal};
 use statetable::{action, cell_word, core_mark, edge, goto_word, offered, only_mark, shift_mark};
 
 // Why a right side is empty: 1 to 6 or 18, or 0 where it is that of a production.
-#[unsafe(no_mangle)]
-pub extern "C" fn timkerzal_body_refusal(block: &[u32], p: usize) -> u32
+pub fn timkerzal_body_refusal(block: &[u32], p: usize) -> u32
     ensures { result ≡ body_refusal block.now p }
 {
     body_refusal(block, p)
 }
 
 // Symbols of the right side of production p; 0 for a refused block or an unknown production.
-#[unsafe(no_mangle)]
-pub extern "C" fn timkerzal_body_length(block: &[u32], p: usize) -> usize
+pub fn timkerzal_body_length(block: &[u32], p: usize) -> usize
     ensures { result ≡ length (body_part block.now p) }
 {
     body(block, p).len()
 }
 
 // Symbol i of the right side of production p; 0 where there is none.
-#[unsafe(no_mangle)]
-pub extern "C" fn timkerzal_body_symbol(block: &[u32], p: usize, i: usize) -> u32
+pub fn timkerzal_body_symbol(block: &[u32], p: usize, i: usize) -> u32
     ensures { result ≡ get_or (body_part block.now p) i 0 }
 {
     let part = body(block, p);
@@ -38,8 +35,7 @@ pub extern "C" fn timkerzal_body_symbol(block: &[u32], p: usize, i: usize) -> u3
 }
 
 // The action of state s at token t.
-#[unsafe(no_mangle)]
-pub extern "C" fn timkerzal_action(
+pub fn timkerzal_action(
     block: &[u32],
     states: usize,
     actions: &[u32],
@@ -54,8 +50,7 @@ pub extern "C" fn timkerzal_action(
 }
 
 // The word of the cell of state s at token t.
-#[unsafe(no_mangle)]
-pub extern "C" fn timkerzal_cell(
+pub fn timkerzal_cell(
     block: &[u32],
     states: usize,
     actions: &[u32],
@@ -70,8 +65,7 @@ pub extern "C" fn timkerzal_cell(
 }
 
 // The offered mark of state s at token t.
-#[unsafe(no_mangle)]
-pub extern "C" fn timkerzal_offered(
+pub fn timkerzal_offered(
     block: &[u32],
     states: usize,
     marks: &[u32],
@@ -86,8 +80,7 @@ pub extern "C" fn timkerzal_offered(
 }
 
 // The shift mark of state s at token t.
-#[unsafe(no_mangle)]
-pub extern "C" fn timkerzal_shift(
+pub fn timkerzal_shift(
     block: &[u32],
     states: usize,
     marks: &[u32],
@@ -102,8 +95,7 @@ pub extern "C" fn timkerzal_shift(
 }
 
 // The goto of state s for a rule: the state and one more, 0 for none.
-#[unsafe(no_mangle)]
-pub extern "C" fn timkerzal_goto(
+pub fn timkerzal_goto(
     block: &[u32],
     states: usize,
     gotos: &[u32],
@@ -118,8 +110,7 @@ pub extern "C" fn timkerzal_goto(
 }
 
 // The core-reduce mark of state s for production p.
-#[unsafe(no_mangle)]
-pub extern "C" fn timkerzal_core(
+pub fn timkerzal_core(
     block: &[u32],
     states: usize,
     marks: &[u32],
@@ -134,8 +125,7 @@ pub extern "C" fn timkerzal_core(
 }
 
 // The reduce-only mark of state s.
-#[unsafe(no_mangle)]
-pub extern "C" fn timkerzal_only(
+pub fn timkerzal_only(
     block: &[u32],
     states: usize,
     marks: &[u32],
@@ -149,8 +139,7 @@ pub extern "C" fn timkerzal_only(
 }
 
 // The edge of state s on a symbol, 2r or 2t + 1: the state and one more, 0 for none.
-#[unsafe(no_mangle)]
-pub extern "C" fn timkerzal_edge(
+pub fn timkerzal_edge(
     block: &[u32],
     states: usize,
     edges: &[u32],
