@@ -1,7 +1,7 @@
-/* Timkerzal for C: an LR(1) table builder and a shift-reduce machine. Link target/staticlib/libtimkerzal.a (rt staticlib timkerzal).
+/* Timkerzal for C: an LR(1) table builder and a shift-reduce machine. Link target/staticlib/libtimkerzal.a (sh tools/staticlib).
  *
  * Every call takes any words: nothing is asked of a caller but that each pointer has as many elements as the length behind it says, and that
- * no output overlaps another buffer. What a call promises stands in crates/timkerzal/src, and in words in docs/API.md and docs/ROOMS.md.
+ * no output overlaps another buffer. What a call promises stands in crates/timkerzal_c/src, and in words in docs/API.md and docs/ROOMS.md.
  * T, R, P, L are tokens, rules, productions and symbols of the block; S and I the states and kernel items that the caller names; N and M the
  * records that the reduce/reduce list and the shift/reduce list have room for. */
 #ifndef TIMKERZAL_H

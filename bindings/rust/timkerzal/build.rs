@@ -1,4 +1,4 @@
-//! Links the proved static library that `rt staticlib timkerzal` writes; TIMKERZAL_LIB names another folder for it.
+//! Links the proved static library that `sh tools/staticlib` writes; TIMKERZAL_LIB names another folder for it.
 use std::{env, path::PathBuf};
 
 fn main() {
@@ -8,7 +8,7 @@ fn main() {
     let archive = folder.join("libtimkerzal.a");
     println!("cargo:rerun-if-env-changed=TIMKERZAL_LIB");
     println!("cargo:rerun-if-changed={}", archive.display());
-    assert!(archive.exists(), "{} is missing: run `rt staticlib timkerzal` first", archive.display());
+    assert!(archive.exists(), "{} is missing: run `sh tools/staticlib` first", archive.display());
     println!("cargo:rustc-link-search=native={}", folder.display());
     println!("cargo:rustc-link-lib=static=timkerzal");
 }
