@@ -40,24 +40,24 @@ tok-iff : (b : List ℕ) (K L : List Row) → Rows b K → (p d : ℕ) → d < D
 tok-iff b K L R p d l s t B w =
     (λ m. token-both 0 (DOTS * p + d) w s t K L R.ascend B m.1, λ m. (l, both-token (DOTS * p + d) w s t K L B m))
 
-module _ (b : List ℕ) (K L : List Row) (ResultKind : Rows b K) (RL : Rows b L) where
+module _ (b : List ℕ) (K L : List Row) (RK : Rows b K) (RL : Rows b L) where
   -- ---- two items of both
   module _ (S : SameItems K L) (p d q e : ℕ) (l : d < DOTS) (k : e < DOTS) (s t u v : List ℕ)
       (B : Both (DOTS * p + d) s t K L) (C : Both (DOTS * q + e) u v K L) where
     words : (apart (s, t) (u, v) ≡ true) ↔ Apart s t u v
     words =
-        apart-iff s t u v (both-fits _ s t K L ResultKind.sets B).1 (both-fits _ t s L K RL.sets (both-swap _ s t K L S B)).1
-        (both-fits _ u v K L ResultKind.sets C).1
+        apart-iff s t u v (both-fits _ s t K L RK.sets B).1 (both-fits _ t s L K RL.sets (both-swap _ s t K L S B)).1
+        (both-fits _ u v K L RK.sets C).1
 
     -- the tokens of each, here and there
     s-tok : (w : ℕ) → (kernel_of K).tok p d w ↔ In s w
-    s-tok = tok-iff b K L ResultKind p d l s t B
+    s-tok = tok-iff b K L RK p d l s t B
 
     t-tok : (w : ℕ) → (kernel_of L).tok p d w ↔ In t w
     t-tok = tok-iff b L K RL p d l t s (both-swap _ s t K L S B)
 
     u-tok : (w : ℕ) → (kernel_of K).tok q e w ↔ In u w
-    u-tok = tok-iff b K L ResultKind q e k u v C
+    u-tok = tok-iff b K L RK q e k u v C
 
     v-tok : (w : ℕ) → (kernel_of L).tok q e w ↔ In v w
     v-tok = tok-iff b L K RL q e k v u (both-swap _ u v K L S C)
@@ -119,11 +119,11 @@ module _ (b : List ℕ) (K L : List Row) (ResultKind : Rows b K) (RL : Rows b L)
 
   weak-from : Compatible (kernel_of K) (kernel_of L) → compatible K L ≡ true
   unfolding compatible
-  weak-from c = ap₂ ◌&&◌ (test-items K L S) (both-pairwise apart apart-swap 0 K L ResultKind.ascend pairs)
+  weak-from c = ap₂ ◌&&◌ (test-items K L S) (both-pairwise apart apart-swap 0 K L RK.ascend pairs)
     where
       S : SameItems K L
       S =
-          present-items 0 0 K L ResultKind.ascend RL.ascend
+          present-items 0 0 K L RK.ascend RL.ascend
           (λ k m. join-item (λ n. Present n L) k (c.there (k / DOTS) (k % DOTS) (low k, split (λ n. Present n K) k m)).1)
           (λ k m. join-item (λ n. Present n K) k (c.here (k / DOTS) (k % DOTS) (low k, split (λ n. Present n L) k m)).1)
 
@@ -136,11 +136,11 @@ module _ (b : List ℕ) (K L : List Row) (ResultKind : Rows b K) (RL : Rows b L)
           (λ z. ne (let z0 = z.0 in let z1 = z.1 in omega arith)))
 
 pub rule-6 : (b : List ℕ) (K L : List Row) → Rows b K → Rows b L → Rule6 b K L
-rule-6 b K L ResultKind RL =
+rule-6 b K L RK RL =
     record {
       equal = (rows_is K L, λ e. subst (λ r. same_rows K r ≡ true) e (rows_refl K));
-      weak = (weak-to b K L ResultKind RL, weak-from b K L ResultKind RL);
-      rows = λ h. union-rows b K L ResultKind RL.sets;
-      kernel = λ h. union-kernel K L (weak-items b K L ResultKind RL h);
+      weak = (weak-to b K L RK RL, weak-from b K L RK RL);
+      rows = λ h. union-rows b K L RK RL.sets;
+      kernel = λ h. union-kernel K L (weak-items b K L RK RL h);
       size = union-length K L;
     }

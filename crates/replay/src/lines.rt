@@ -126,7 +126,7 @@ fn text_room() -> [u8; TEXT]
 
 // Replays the list of that number, and tells its name, the first lines that differ, how many cases it has, how many of them
 // differ, and whether it was not read whole. No contract can name the text that is read: the tally of any would do. What is
-// proved is `count_cases`. An error is one of reading or printing.
+// proved is `count_cases`. An error is that of the first read or write that fails; what was printed before it stays.
 pub fn replay<R: Input + Print>(rt: &R, name: &[u8], list: u64) -> io::Result<Tally>
     ensures { IfOk result (λ r. (text : List ℕ) × TallyOf list text r) }
 {

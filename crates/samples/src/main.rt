@@ -1,4 +1,5 @@
-// The blocks of document 01's samples: what the check says of each, and its right sides.
+// The blocks of document 01's samples: what the check says of each, and its right sides. A write that fails ends the program
+// with its error.
 #![tactic(auto)]
 
 use block::{body, body_refusal, check_block, number};

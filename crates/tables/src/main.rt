@@ -1,5 +1,6 @@
 // Reads a grammar block as decimal words from standard input and prints its tables, one item a line.
-// A text that is no block is told on standard output too.
+// A text that is no block is told on standard output too. The first read or write that fails ends the program with its error;
+// what was printed before it stays.
 #![tactic(auto)]
 
 mod reading;

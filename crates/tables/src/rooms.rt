@@ -69,7 +69,7 @@ fn named(block: &[u32]) -> Named {
     }
 }
 
-// Builds the block's tables and tells them.
+// Builds the block's tables and tells them. An error is that of the write that failed.
 pub fn tell_tables(rt: &impl Print, block: &[u32]) -> io::Result<()> {
     let mut items = row_room();
     let mut spans = [0u32; SPANS];

@@ -1,4 +1,4 @@
-// What a build answered, as text.
+// What a build answered, as text. An error is that of the write that failed; what was printed before it stays.
 use block::word;
 use statetable::limits::{RR, SR};
 use statetable::{Counts, StateTable};
