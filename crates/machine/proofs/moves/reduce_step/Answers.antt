@@ -76,7 +76,7 @@ returns-then-output-k c =
     let g = inner-prod b z.result z.ensures p c.if-z-p.false (c.if-p-z.false) in
     λ actions input old d R.
     let k = known-prod b z.result z.ensures p R.good c.if-z-p.false in
-    reduce-full-output p g n.result (body-size k n.result n.ensures) d R c.if-h-n.false c.goto_of-e.result c.goto_of-e.ensures c.if-e-eq0.false c.if-output-k.true
+    reduce-full-output p g n.result (body-size k n.result n.ensures) d R c.if-h-n.false c.goto_of-e.result c.goto_of-e.ensures (omega arith) c.if-output-k.true
 
 pub returns-then-stack-left : goal.returns-then-stack-left
 returns-then-stack-left c =
@@ -87,7 +87,7 @@ returns-then-stack-left c =
     let g = inner-prod b z.result z.ensures p c.if-z-p.false (c.if-p-z.false) in
     λ actions input old d R.
     let k = known-prod b z.result z.ensures p R.good c.if-z-p.false in
-    reduce-full-stack p g n.result (body-size k n.result n.ensures) d R c.if-h-n.false c.goto_of-e.result c.goto_of-e.ensures c.if-e-eq0.false c.if-output-k.false c.if-stack-left.true
+    reduce-full-stack p g n.result (body-size k n.result n.ensures) d R c.if-h-n.false c.goto_of-e.result c.goto_of-e.ensures (omega arith) (omega arith) c.if-stack-left.true
 
 pub overflow_cast-output : goal.overflow_cast-output
 overflow_cast-output c = omega (arith, c.if-z-p.false, ap (λ (y : Sizes). y.prods) c.sizes_of-z.ensures, (placed c.requires.4.good).prods-most)
