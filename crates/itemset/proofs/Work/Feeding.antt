@@ -1,8 +1,8 @@
 -- The productions of a rule take tokens, one production after the other. Assumes nothing.
-use mathlib.Core.Bool.{true, false}
-use mathlib.Core.List.{List}
+use mathlib.Core.Bool.{Bool, true, false}
+use mathlib.Core.List.{List, List-discrete}
 use mathlib.Core.Logic.{◌⊎◌, inl, inr}
-use mathlib.Core.Path.{◌≡◌, sym, ap, ◌∙◌, subst}
+use mathlib.Core.Path.{◌≡◌, refl, sym, ap, ◌∙◌, subst}
 use Prim.Native.Nat.{ℕ, ◌+◌, ◌<◌}
 use native.Mathlib.Decide.{ℕ_discrete}
 use native.Mathlib.Omega.{arith}
@@ -80,3 +80,27 @@ module _ (b : List ℕ) (rule : ℕ) (add : List ℕ) (n : ℕ) (y z : Zeros) (I
 
         other : (q : ℕ) → Same z (enter z I.size n l v) q → Cause y z q → Cause y (enter z I.size n l v) q
         other q S c t = elim (c (sym S.todo ∙ t)) [ inl k ↦ inl k | inr k ↦ inr (elim k [ inl f ↦ inl f | inr f ↦ inr (λ g. f (sym S.set ∙ g)) ]) ]
+
+  -- production n in a turn of the loop, from z to z': if it is of the rule, and new or grows, it comes in; else nothing changes
+  pub fed-next : (l : n < PRODS) (z' : Zeros) (v : TokenSet)
+      → (rule_of b n ≡ rule → (marks_of z n ≡ false) ⊎ (join (contexts_of z n) add ≡ contexts_of z n → ⊥)
+      → (v.words ≡ join (contexts_of z n) add) × (z' ≡ enter z I.size n l v))
+      → (rule_of b n ≡ rule → marks_of z n ≡ true → join (contexts_of z n) add ≡ contexts_of z n → z' ≡ z)
+      → ((rule_of b n ≡ rule → ⊥) → z' ≡ z)
+      → Fed b rule add (n + 1) y z'
+  fed-next l z' v came kept other = elim (ℕ_discrete (rule_of b n) rule) [
+    | no d ↦ subst (Fed b rule add (n + 1) y) (sym (other d)) (fed-keep (λ e. absurd (d e)))
+    | yes e ↦ by-mark e (marks_of z n) refl
+  ]
+    where
+      enters : rule_of b n ≡ rule → (marks_of z n ≡ false) ⊎ (join (contexts_of z n) add ≡ contexts_of z n → ⊥) → Fed b rule add (n + 1) y z'
+      enters e why =
+          let (j, s) = came e why in
+          subst (Fed b rule add (n + 1) y) (sym s) (fed-add l e v j (elim why [ inl f ↦ inl f | inr f ↦ inr (λ k. f (sym j ∙ k)) ]))
+
+      by-mark : rule_of b n ≡ rule → (m : Bool) → marks_of z n ≡ m → Fed b rule add (n + 1) y z'
+      by-mark e false f = enters e (inl f)
+      by-mark e true t = elim (List-discrete ℕ_discrete (join (contexts_of z n) add) (contexts_of z n)) [
+        | yes j ↦ subst (Fed b rule add (n + 1) y) (sym (kept e t j)) (fed-keep (λ _. (t, j)))
+        | no d ↦ enters e (inr d)
+      ]
