@@ -1,5 +1,5 @@
 -- `add_prod` meets its contract: the laws of proofs/FirstAdd. Assumes nothing.
-use Rattle.std.proofs.Common.{false, ◌&&◌, ◌||◌, not, List, ◌≡◌, sym, ap, ◌∙◌, subst, ℕ, ◌*◌, arith, get_or}
+use Rattle.std.proofs.Common.{false, ◌&&◌, ◌||◌, not, List, ◌≡◌, refl, sym, ap, ◌∙◌, subst, ℕ, ◌*◌, arith, get_or}
 use lib.Seq.{paste}
 use Rattle.block.specs.Limits.{WORDS}
 use Rattle.block.specs.Sets.{join}
@@ -7,10 +7,10 @@ use Rattle.block.specs.First.{ahead_of, ahead}
 use Rattle.block.proofs.Good.{placed, rule-below}
 use Rattle.block.proofs.Bodies.{body-small}
 use Rattle.block.proofs.FirstRest.{ahead-eta}
-use Rattle.block.proofs.ListLaws.{or-then, or_else, and_then, and-else}
+use Rattle.block.proofs.ListLaws.{or-then, or_else}
 use Rattle.block.proofs.FirstAdd.{became-add, told-mark, told-union}
 use Rattle.block.proofs.first.add_prod.Goals as goal
-use Rattle.block.proofs.first.add_prod.Goals.{then-was, else-was, then-a, else-a}
+use Rattle.block.proofs.first.add_prod.Goals.{then-was, else-was}
 
 pub first_of-a-requires : goal.first_of-a-requires
 first_of-a-requires c = rw c.body_of.ensures (body-small c.requires)
@@ -45,13 +45,11 @@ returns-then-not-was c =
     let ld = c.load-old.ensures in
     let jn = c.join-new.ensures.words ∙ ap (λ (u : List ℕ). join u h.set.words) ld in
     let v = c.if-was.nullable in
-    let f = c.if-a.t-40 in
     let ev : v ≡ (w || h.null) = elim c.if-was.branch [ then-was z ↦ or-then w h.null v z.if-was.true z.nullable-is | else-was z ↦ or_else w h.null v z.if-was.false z.nullable-is ] in
-    let ef : f ≡ (h.null && not w) = elim c.if-a.branch [ then-a z ↦ and_then h.null (not w) f z.if-a.true z.t-40-is | else-a z ↦ and-else h.null (not w) f z.if-a.false z.t-40-is ] in
     became-add a.block.now a.p (rule-below a.p k) (placed k.good).rules-most (body-small k) F a.nullable.now a.first.now size S
     (omega arith) (omega arith) r q h.null h.set.words y v ev c.store.new.s
     (c.store.ensures ∙ ap (λ (u : List ℕ). paste a.first.now (WORDS * r) u WORDS) jn)
-    f (told-mark w h.null f ef c.if-not-was.true-raw)
+    _ (told-mark w h.null _ (grind arith) (grind arith))
 
 pub returns-else-not-was : goal.returns-else-not-was
 returns-else-not-was c =
@@ -67,10 +65,8 @@ returns-else-not-was c =
     let ld = c.load-old.ensures in
     let jn = c.join-new.ensures.words ∙ ap (λ (u : List ℕ). join u h.set.words) ld in
     let v = c.if-was.nullable in
-    let f = c.if-a.t-40 in
     let ev : v ≡ (w || h.null) = elim c.if-was.branch [ then-was z ↦ or-then w h.null v z.if-was.true z.nullable-is | else-was z ↦ or_else w h.null v z.if-was.false z.nullable-is ] in
-    let ef : f ≡ (h.null && not w) = elim c.if-a.branch [ then-a z ↦ and_then h.null (not w) f z.if-a.true z.t-40-is | else-a z ↦ and-else h.null (not w) f z.if-a.false z.t-40-is ] in
     became-add a.block.now a.p (rule-below a.p k) (placed k.good).rules-most (body-small k) F a.nullable.now a.first.now size S
     (omega arith) (omega arith) r q h.null h.set.words y v ev c.store.new.s
     (c.store.ensures ∙ ap (λ (u : List ℕ). paste a.first.now (WORDS * r) u WORDS) jn)
-    (not c.same.result) (told-union w h.null f c.same.result ef c.if-not-was.false-raw (λ e. sym jn ∙ c.same.ensures.words.0 e ∙ ld, λ e. c.same.ensures.words.1 (jn ∙ e ∙ sym ld)))
+    (not c.same.result) (told-union w h.null (h.null && not w) c.same.result refl (grind arith) (λ e. sym jn ∙ c.same.ensures.words.0 e ∙ ld, λ e. c.same.ensures.words.1 (jn ∙ e ∙ sym ld)))
