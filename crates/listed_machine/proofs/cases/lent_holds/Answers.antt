@@ -10,7 +10,7 @@ returns c =
     let a = c.args in
     lent_by a.block.now a.states a.actions.now a.gotos.now a.input.now a.rest.now
     c.index.result c.bounded.result c.bounded-2.result 16384
-    c.if-rest-lt4.false (omega (arith, c.if-fill-gt4294967295.false))
+    c.if-rest-lt4.false (omega arith)
     c.index.ensures
     (c.bounded.ensures.bounded ∙ ap bounded_of c.index-2.ensures) c.bounded.ensures.most
     (c.bounded-2.ensures.bounded ∙ ap bounded_of c.index-3.ensures) c.bounded-2.ensures.most
