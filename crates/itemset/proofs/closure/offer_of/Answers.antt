@@ -29,7 +29,7 @@ returns-then-a c =
     let a = c.args in
     let r = c.body_of-body in
     offer-own a.block.now a.item r.result.now r.ensures F a.own.words _ (omega arith) (even-of _ c.if-x-eq1.false) refl
-    c.first_of-a.result (c.first_of-a.ensures F S) c.if-a.true c.join.ensures.words
+    c.first_of-a.result (c.first_of-a.ensures F S) (grind arith) c.join.ensures.words
 
 pub returns : goal.returns
 returns c =
