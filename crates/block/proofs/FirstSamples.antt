@@ -3,7 +3,6 @@ use mathlib.Core.Bool.{true, false}
 use mathlib.Core.List.{List, [], ◌∷◌, map}
 use mathlib.Core.Path.{◌≡◌, refl}
 use Prim.Native.Nat.{ℕ}
-use lib.Bits.{bit_or}
 use Rattle.block.specs.Lists.{any, change, same, settle, from, upto}
 use Rattle.block.specs.Block.{body_of}
 use Rattle.block.specs.Refusal.{short_block, too_large, misplaced, lengths, good_production, bad_production, start_again, bad_start, good_symbol, bad_symbol, good_prec, bad_precedence, first_fault, refusal_of}
@@ -36,10 +35,10 @@ unfolding any from upto short_block too_large misplaced lengths good_production 
 samples-good = refl
 
 pub samples-first : map (λ c. firsts_of c.0) samples ≡ map (λ c. c.1) samples
-unfolding change same settle from upto body_of empty with join behind either ahead_same ahead_sym ahead_of add_prod firsts_of bit_or
+unfolding change same settle from upto body_of empty with join behind either ahead_same ahead_sym ahead_of add_prod firsts_of
 samples-first = refl
 
 -- a rest: b behind two rules that may be empty
 pub sample-rest : ahead_of (firsts_of hollow) (4 ∷ 4 ∷ 3 ∷ []) ≡ ahead false (with (with empty 0) 1)
-unfolding change same settle from upto body_of empty with join behind either ahead_same ahead_sym ahead_of add_prod firsts_of bit_or
+unfolding change same settle from upto body_of empty with join behind either ahead_same ahead_sym ahead_of add_prod firsts_of
 sample-rest = refl

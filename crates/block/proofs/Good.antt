@@ -4,7 +4,7 @@ use mathlib.Core.Path.{◌≡◌, ap, subst}
 use Prim.Native.Nat.{ℕ, zero, suc, ◌+◌, ◌-◌, ◌≤◌, ◌<◌}
 use native.Mathlib.Decide.{ℕ_discrete, dec_lt}
 use native.Mathlib.Omega.{arith}
-use lib.ListN.{get_or, length, take, drop, length-drop}
+use lib.ListN.{get_or, length, drop, length-drop}
 use lib.Seq.{get_or-drop, get_or-take, length-take-le}
 use Rattle.block.specs.Limits.{TOKENS, RULES, PRODS, SYMBOLS, LENGTH}
 use Rattle.block.specs.Block.{tokens, rules, prods, symbols, start_prod, symbols_at, precs_at, rule_of, first_of, length_of, symbol_at, body_of}
@@ -109,11 +109,6 @@ module _ {b : List ℕ} where
 
     pub body-inside : first_of b p + length_of b p ≤ symbols b
     body-inside = inside k.good p k.below
-
-    -- the part of the block that is the right side
-    pub body-part : (s e : ℕ) → s ≡ symbols_at b + first_of b p → e ≡ s + length_of b p → take (e - s) (drop s b) ≡ body_of b p
-    unfolding body_of
-    body-part s e hs he = let n : e - s ≡ length_of b p = omega arith in rw (n, hs)
 
     pub body-length : length (body_of b p) ≡ length_of b p
     body-length = part_length b p (placed k.good) body-inside

@@ -3,11 +3,12 @@ use mathlib.Core.Bool.{Bool, true, false, true≢false, ◌&&◌, ◌||◌}
 use mathlib.Core.List.{List, [], ◌∷◌, foldl}
 use mathlib.Core.Logic.{◌⊎◌, inl, inr}
 use mathlib.Core.Path.{◌≡◌, refl, sym, ap, ap₂, ◌∙◌}
-use Prim.Native.Nat.{ℕ, zero, suc, ◌+◌, ◌≤◌, ◌<◌}
+use Prim.Native.Nat.{ℕ, zero, suc, ◌+◌, ◌-◌, ◌≤◌, ◌<◌}
 use native.Mathlib.Decide.{ℕ_discrete}
+use native.Mathlib.Numerals.{add-one}
 use native.Mathlib.Omega.{arith}
 use lib.ListN.{get_or, length, replicate}
-use Rattle.block.specs.Lists.{change, same, from, upto}
+use Rattle.block.specs.Lists.{any, change, same, from, upto}
 
 -- ---- tests
 pub and_both : (a c : Bool) → (a && c) ≡ true → (a ≡ true) × (c ≡ true)
@@ -136,3 +137,30 @@ pub get_d-same : {A : Type 0} (n r : ℕ) (d : A) → get_or (replicate n d) r d
 get_d-same zero r d = refl
 get_d-same (suc n) zero d = refl
 get_d-same (suc n) (suc r) d = get_d-same n r d
+
+-- ---- whether a test holds of some number below n, number by number
+module _ (f : ℕ → Bool) (n : ℕ) where
+  -- of one from k on
+  unfoldable pub any_left : ℕ → Bool
+  any_left k = any f (from k (n - k))
+
+  pub left-all : any_left 0 ≡ any f (upto n)
+  unfolding any_left upto
+  left-all = ap (λ (m : ℕ). any f (from 0 m)) (let z : n - 0 ≡ n = omega arith in z)
+
+  step : (k : ℕ) → k < n → any_left k ≡ (f k || any_left (k + 1))
+  unfolding any_left any from
+  step k l =
+      ap (λ (m : ℕ). any f (from k m)) (let z : n - k ≡ suc (n - (k + 1)) = omega arith in z)
+      ∙ ap (λ (m : ℕ). f k || any f (from m (n - (k + 1)))) (sym (add-one k))
+
+  module _ (k : ℕ) (a : Bool) (left : any_left k ≡ a) where
+    pub left-stops : k < n → f k ≡ true → a ≡ true
+    left-stops l e = sym left ∙ step k l ∙ ap (λ (t : Bool). t || any_left (k + 1)) e
+
+    pub left-on : k < n → f k ≡ false → any_left (k + 1) ≡ a
+    left-on l e = sym (ap (λ (t : Bool). t || any_left (k + 1)) e) ∙ sym (step k l) ∙ left
+
+    pub left-over : n ≤ k → a ≡ false
+    unfolding any_left any from
+    left-over l = sym left ∙ ap (λ (m : ℕ). any f (from k m)) (let z : n - k ≡ 0 = omega arith in z)

@@ -1,18 +1,19 @@
 -- The next member of a set of any number of words, and its members by walking along it. Assumes nothing.
-use mathlib.Core.Bool.{Bool, true, false, cond}
+use mathlib.Core.Bool.{Bool, true, false, cond, true≢false}
 use mathlib.Core.List.{List, [], ◌∷◌}
 use mathlib.Core.Path.{◌≡◌, refl, sym, ap, ◌∙◌}
 use Prim.Native.Nat.{ℕ, zero, suc, ◌+◌, ◌-◌, ◌≤◌, ◌<◌}
-use native.Mathlib.Decide.{ℕ_discrete}
+use native.Mathlib.Decide.{ℕ_discrete, dec_lt, dec_le}
 use native.Mathlib.Numerals.{add-one}
 use native.Mathlib.Omega.{arith}
-use Rattle.block.specs.Limits.{TOKENS}
+use Rattle.block.specs.Limits.{WORDS, TOKENS}
 use Rattle.block.specs.Lists.{keep, from, upto}
-use Rattle.block.specs.Sets.{mem, In, seek, next_of, members}
-
--- no member of ws from t up to r
-abbrev pub NoneIn : List ℕ → ℕ → ℕ → Type 0
-NoneIn ws t r = (u : ℕ) → t ≤ u → u < r → mem ws u ≡ false
+use Rattle.block.proofs.SetLaws.{mem-out}
+use lib.ListN.{length}
+use Rattle.std.specs.Prelude.{Option, Some, None, MatchOption}
+use Rattle.block.specs.Sets.{mem, In, seek, next_of, members, IsNextOf, or_tokens}
+unfoldable pub use Rattle.block.specs.Sets.{members_from}
+pub use Rattle.block.specs.Sets.{NoneIn}
 
 -- what holds of a search: of none, where it finds, where it goes on
 seek-ind : (ws : List ℕ) (P : ℕ → ℕ → ℕ → Type 0) → ((t : ℕ) → P 0 t t) → ((n t : ℕ) → mem ws t ≡ true → P (suc n) t t)
@@ -84,29 +85,7 @@ module _ (ws : List ℕ) (t : ℕ) where
   unfolding next_of
   next-in h = (seek_is ws (TOKENS - t) t).3 (omega arith)
 
--- ---- the steps of a loop
-pub next-end : (ws : List ℕ) → next_of ws TOKENS ≡ TOKENS
-unfolding next_of seek
-next-end ws = refl
-
-next-step : (ws : List ℕ) (t : ℕ) (b : Bool) → t < TOKENS → mem ws t ≡ b → next_of ws t ≡ elim b [ true ↦ t | false ↦ next_of ws (t + 1) ]
-unfolding next_of seek
-next-step ws t b h e =
-    let k : TOKENS - t ≡ suc (TOKENS - (t + 1)) = omega arith in
-    ap (λ (n : ℕ). seek ws n t) k
-    ∙ ap (λ (c : Bool). elim c [ true ↦ t | false ↦ seek ws (TOKENS - (t + 1)) (suc t) ]) e
-    ∙ ap (λ (m : ℕ). elim b [ true ↦ t | false ↦ seek ws (TOKENS - (t + 1)) m ]) (sym (add-one t))
-
-pub next_here : (ws : List ℕ) (t : ℕ) → t < TOKENS → In ws t → next_of ws t ≡ t
-next_here ws t h i = next-step ws t true h i
-
-pub next-on : (ws : List ℕ) (t : ℕ) → t < TOKENS → mem ws t ≡ false → next_of ws t ≡ next_of ws (t + 1)
-next-on ws t h e = next-step ws t false h e
-
 -- ---- walking along
-unfoldable pub members_from : List ℕ → ℕ → List ℕ
-members_from ws t = keep (mem ws) (from t (TOKENS - t))
-
 pub members-all : (ws : List ℕ) → members TOKENS ws ≡ members_from ws 0
 unfolding members members_from upto
 members-all ws = refl
@@ -122,3 +101,49 @@ members-next ws t h l =
     let r : ℕ = seek ws (TOKENS - t) t in
     let k : t + (TOKENS - t) - suc r ≡ TOKENS - suc r = omega arith in
     (seek-kept ws (TOKENS - t) t).1 (omega arith) ∙ ap (λ (m : ℕ). r ∷ keep (mem ws) (from (suc r) m)) k
+
+-- ---- the least member as an option
+-- what a search of the numbers from t on and below TOKENS tells
+abbrev pub Found : List ℕ → ℕ → Option ℕ → Type 0
+Found ws t r =
+    MatchOption r ((u : ℕ) → t ≤ u → u < TOKENS → mem ws u ≡ false)
+    (λ i. (t ≤ i) × (i < TOKENS) × In ws i × ((u : ℕ) → t ≤ u → u < i → mem ws u ≡ false))
+
+module _ (ws : List ℕ) (t : ℕ) where
+  pub found-next : (r : Option ℕ) → length ws ≡ WORDS → Found ws t r → IsNextOf ws t r
+  found-next None l h = λ u a. elim (dec_lt u TOKENS) [ yes d ↦ h u a d | no d ↦ mem-out ws u (omega arith) ]
+  found-next (Some i) l h = (h.0, h.2, h.3)
+
+  none-next : t ≤ TOKENS → ((u : ℕ) → t ≤ u → mem ws u ≡ false) → next_of ws t ≡ TOKENS
+  none-next b h =
+      elim (dec_lt (next_of ws t) TOKENS) [
+        | yes d ↦ absurd (true≢false (sym (next-in ws t d) ∙ h (next_of ws t) (next-from ws t)))
+        | no d ↦ omega (arith, next_le ws t b)
+      ]
+
+  some-next : (i : ℕ) → i < TOKENS → IsNextOf ws t (Some i) → next_of ws t ≡ i
+  some-next i l h =
+      elim (dec_lt (next_of ws t) i) [
+        | yes d ↦ absurd (true≢false (sym (next-in ws t (omega arith)) ∙ h.2 (next_of ws t) (next-from ws t) d))
+        | no d ↦ elim (dec_lt i (next_of ws t)) [ yes e ↦ absurd (true≢false (sym h.1 ∙ next-none ws t i h.0 e)) | no e ↦ omega arith ]
+      ]
+
+  pub found-number : (r : Option ℕ) → length ws ≡ WORDS → Found ws t r → t ≤ TOKENS → or_tokens r ≡ next_of ws t
+  found-number None l h b = sym (none-next b (found-next None l h))
+  found-number (Some i) l h b = sym (some-next i h.1 (found-next (Some i) l h))
+
+  -- with none, no member is left; else it is the first, and those behind it are left
+  pub left-none : IsNextOf ws t None → members_from ws t ≡ []
+  unfolding members_from keep from
+  left-none h =
+      elim (dec_le t TOKENS) [
+        | yes d ↦ members-end ws t d (none-next d h)
+        | no d ↦ ap (λ (n : ℕ). keep (mem ws) (from t n)) (let z : TOKENS - t ≡ 0 = omega arith in z)
+      ]
+
+  pub left-some : (i : ℕ) → i < TOKENS → IsNextOf ws t (Some i) → members_from ws t ≡ i ∷ members_from ws (i + 1)
+  left-some i l h =
+      let e : next_of ws t ≡ i = some-next i l h in
+      members-next ws t (omega (arith, h.0)) (omega arith)
+      ∙ ap (λ (n : ℕ). n ∷ members_from ws (suc n)) e
+      ∙ ap (λ (n : ℕ). i ∷ members_from ws n) (sym (add-one i))

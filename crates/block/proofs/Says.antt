@@ -1,12 +1,12 @@
 -- A test and the plain statement that it decides. Assumes nothing.
 use mathlib.Core.Bool.{Bool, true, false, true≢false, cond, ◌&&◌, ◌||◌, not}
 use mathlib.Core.Logic.{◌⊎◌, inl, inr, ⊎_elim, ◌≢◌}
-use mathlib.Core.Path.{◌≡◌, refl, sym, ap, ◌∙◌, subst}
+use mathlib.Core.Path.{◌≡◌, refl, sym, subst}
 use Prim.Native.Nat.{ℕ, zero, suc, ◌+◌, ◌<◌, ◌≤◌}
 use native.Mathlib.Decide.{ℕ_discrete}
 use native.Mathlib.Omega.{arith}
 use lib.Dec.{ltb, leb, eqb}
-use borrow.Author.Tests.{ltb-true, ltb-false, leb-true, leb-false, eqb-true, eqb-false, not-true, not-false}
+use borrow.Author.Tests.{ltb-true, ltb-false, leb-true, leb-false, eqb-true, eqb-false}
 use Rattle.block.specs.Lists.{any, upto, from}
 
 -- the test c holds just when P does
@@ -42,54 +42,6 @@ module _ {P : Type 0} where
   pub denies-not : {c : Bool} → Says c P → Denies (not c) P
   denies-not {c = true} s = record { fails = λ e. s.holds refl; holds = λ e. absurd (true≢false (sym e)) }
   denies-not {c = false} s = record { fails = λ e. absurd (true≢false e); holds = λ e. s.fails refl }
-
-module _ {P : Type 0} {c : Bool} where
-  pub refuses : Denies c P → c ≡ false → P
-  refuses s e = s.fails e
-
-  pub allows : Denies c P → c ≡ true → P → ⊥
-  allows s e = s.holds e
-
--- ---- a test t of the code beside the test c of the definition
-module _ {P : Type 0} {t c : Bool} where
-  pub says-as : t ≡ c → Says c P → Says t P
-  says-as e s = record { holds = λ q. s.holds (sym e ∙ q); fails = λ q. s.fails (sym e ∙ q) }
-
-  pub denies-as : t ≡ c → Denies c P → Denies t P
-  denies-as e s = record { fails = λ q. s.fails (sym e ∙ q); holds = λ q. s.holds (sym e ∙ q) }
-
-  pub denies-of : t ≡ not c → Says c P → Denies t P
-  denies-of e s =
-      record { fails = λ q. s.holds (not-false c (sym e ∙ q)); holds = λ q. s.fails (not-true c (sym e ∙ q)) }
-
-  -- a check of the code that answers the contrary of the definition's test
-  pub fell : t ≡ not c → Says c P → t ≡ false → P
-  fell e s = refuses (denies-of e s)
-
-  pub stood : t ≡ not c → Says c P → t ≡ true → P → ⊥
-  stood e s = allows (denies-of e s)
-
-  pub agree : Says t P → Says c P → t ≡ c
-  agree s r = go t refl
-    where
-      go : (a : Bool) → t ≡ a → a ≡ c
-      go true e = sym (says-true r (s.holds e))
-      go false e = sym (says-false r (s.fails e))
-
-  pub oppose : Denies t P → Says c P → t ≡ not c
-  oppose s r = go t refl
-    where
-      go : (a : Bool) → t ≡ a → a ≡ not c
-      go true e = sym (ap not (says-false r (s.holds e)))
-      go false e = sym (ap not (says-true r (s.fails e)))
-
--- the answers of a check that says whether all is right
-module _ {P : Type 0} {c : Bool} where
-  pub refused : Says c P → P → false ≡ not c
-  refused s p = sym (ap not (says-true s p))
-
-  pub allowed : Says c P → (P → ⊥) → true ≡ not c
-  allowed s n = sym (ap not (says-false s n))
 
 module _ {P Q : Type 0} where
   pub says_map : {c : Bool} → (P → Q) → (Q → P) → Says c P → Says c Q

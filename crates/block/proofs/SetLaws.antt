@@ -1,7 +1,6 @@
 -- Members of a set of any number of words: outside, with one more, extensionality, meeting. Assumes nothing.
 use mathlib.Core.Bool.{Bool, true, false, not, ◌||◌, or-false, false≢true, true≢false}
 use mathlib.Core.List.{List, [], ◌∷◌}
-use mathlib.Core.Logic.Iff
 use mathlib.Core.Logic.{◌⊎◌, inl, inr, ◌↔◌}
 use mathlib.Core.Path.{◌≡◌, refl, sym, ap, ◌∙◌}
 use Prim.Native.Nat.{ℕ, zero, suc, ◌+◌, ◌*◌, ◌/◌, ◌%◌, ◌^◌, ◌≤◌, ◌<◌, min}
@@ -106,11 +105,6 @@ mem-ext a b wa wb e h = ext_get_or 0 a b e (λ i l. bit-ext 64 (get_or a i 0) (g
 
 pub same-members : (n : ℕ) (a b : List ℕ) → Fits n a → Fits n b → (a ≡ b) ↔ ((u : ℕ) → mem a u ≡ mem b u)
 same-members n a b (la, wa) (lb, wb) = (λ e u. ap (λ (s : List ℕ). mem s u) e, λ h. mem-ext a b wa wb (la ∙ sym lb) (λ u l. h u))
-
--- an answer about the words says the same of the members
-pub same-told : (n : ℕ) (a b : List ℕ) (r : Bool) → Fits n a → Fits n b → (r ≡ true) ↔ (a ≡ b)
-    → ((r ≡ true) ↔ (a ≡ b)) × ((r ≡ true) ↔ ((u : ℕ) → mem a u ≡ mem b u))
-same-told n a b r fa fb h = (h, Iff.trans h (same-members n a b fa fb))
 
 -- ---- meeting
 abbrev both : List ℕ → List ℕ → ℕ → ℕ

@@ -1,13 +1,32 @@
 -- The two queries of a right side, way by way. Assumes nothing.
-use mathlib.Core.Bool.{Bool, true, false, cond}
+use mathlib.Core.Bool.{cond}
 use mathlib.Core.List.{List, []}
 use mathlib.Core.Path.{◌≡◌, refl, sym, ap, ◌∙◌}
 use Prim.Native.Nat.{ℕ, zero, suc, ◌<◌, ◌≤◌}
 use native.Mathlib.Omega.{arith}
 use lib.Dec.{ltb}
-use borrow.Author.Tests.{lt-ltb, le-ltb, ltb-true}
+use borrow.Author.Tests.{lt-ltb, le-ltb}
 use Rattle.block.specs.Block.{prods, body_of}
-use Rattle.block.specs.Refusal.{refusal_of, Known, body_refusal, body_part}
+use Rattle.block.specs.Refused.{number_of}
+use Rattle.block.specs.Bodies.{body_number}
+use Rattle.block.specs.declared.refusal.BlockRefusal.{BlockRefusal}
+use Rattle.block.specs.declared.refusal.BlockRefusal.TheVariants.{BadHeader, TooLarge, BadProduction, BadStart, BadSymbol, BadPrecedence}
+use Rattle.block.specs.declared.queries.BodyRefusal.{BodyRefusal}
+use Rattle.block.specs.declared.queries.BodyRefusal.TheVariants.{Block, UnknownProduction}
+use Rattle.block.specs.Refusal.{refusal_of, body_refusal, body_part}
+
+-- no refusal has the number 0
+pub number-some : (e : BlockRefusal) → number_of e ≡ 0 → ⊥
+number-some BadHeader h = omega arith
+number-some TooLarge h = omega arith
+number-some BadProduction h = omega arith
+number-some BadStart h = omega arith
+number-some BadSymbol h = omega arith
+number-some BadPrecedence h = omega arith
+
+pub body-some : (e : BodyRefusal) → body_number e ≡ 0 → ⊥
+body-some (Block e) h = number-some e h
+body-some UnknownProduction h = omega arith
 
 module _ (b : List ℕ) (p : ℕ) where
   -- the queries over the number of the block's own refusal
@@ -40,15 +59,3 @@ module _ (b : List ℕ) (p : ℕ) where
   pub part-is : body_refusal b p ≡ 0 → body_of b p ≡ body_part b p
   unfolding body_part
   part-is e = sym (ap parted e)
-
-  pub part-known : body_refusal b p ≡ 0 → Known b p
-  unfolding body_refusal
-  part-known e = go (refusal_of b) refl e
-    where
-      below : (t : Bool) → ltb p (prods b) ≡ t → ◌≡◌ {A = ℕ} (cond t 0 18) 0 → p < prods b
-      below true q e = ltb-true p (prods b) q
-      below false q e = absurd (omega arith)
-
-      go : (m : ℕ) → refusal_of b ≡ m → numbered m ≡ 0 → Known b p
-      go zero q e = record { good = record { unrefused = q }; below = below (ltb p (prods b)) refl e }
-      go (suc m) q e = absurd (omega arith)

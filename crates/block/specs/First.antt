@@ -1,12 +1,12 @@
--- Rule 1: nullable and FIRST, by rounds over the productions; and how they lie in their rooms. Assumes nothing.
-use Rattle.std.specs.Prelude.{Bool, true, false, ◌||◌, ◌&&◌, cond, ◌↔◌, ◌≡◌, ℕ, ◌+◌, ◌*◌, ◌/◌, ◌%◌, ◌^◌, ◌<◌, eqb, get_or, replicate, take, drop}
+-- Rule 1: nullable and FIRST, by rounds over the productions. Assumes nothing.
+use Rattle.std.specs.Prelude.{Bool, true, false, ◌||◌, ◌&&◌, cond, ◌≡◌, ℕ, ◌+◌, ◌*◌, ◌/◌, ◌%◌, ◌^◌, ◌<◌, eqb, get_or, replicate}
 use Rattle.std.specs.Bool.{beq}
 use mathlib.Core.List.{List, [], ◌∷◌, foldl}
 use Rattle.block.specs.Limits.{WORDS, RULES, TOKENS}
 use Rattle.block.specs.Lists.{upto, same, settle, change}
 use Rattle.block.specs.Block.{rules, prods, rule_of, body_of}
 use Rattle.block.specs.Sets.{empty, with, join, same_set}
-use Rattle.block.specs.declared.first.Lookahead.{Lookahead}
+use Rattle.block.specs.declared.lookahead.Lookahead.{Lookahead}
 
 -- whether nothing may be derived, and the tokens that may come first
 pub data Ahead : Type 0 where
@@ -53,17 +53,7 @@ round_of b F = foldl (add_prod b) F (upto (prods b))
 unfoldable pub firsts_of : List ℕ → List Ahead
 firsts_of b = settle (same ahead_same) (round_of b) (rules b * (WORDS * 2 ^ 64 + 1)) (replicate (rules b) nothing)
 
--- the rooms hold F: of each rule a mark whether it is nullable, and the words of its FIRST
-pub record Stored (F : List Ahead) (nullable : List Bool) (first : List ℕ) : Type 0 where
-  pub null : (r : ℕ) → r < RULES → get_or nullable r false ≡ is_null (get_or F r nothing)
-  pub words : (r : ℕ) → r < RULES → take WORDS (drop (WORDS * r) first) ≡ first_in (get_or F r nothing)
-
--- the rooms went from F to G, and the answer tells whether that changed anything
-pub record Became (F G : List Ahead) (grew : Bool) (nullable : List Bool) (first : List ℕ) : Type 0 where
-  pub stored : Stored G nullable first
-  pub still : (grew ≡ false) ↔ (G ≡ F)
-
--- the answer of `first_of` is a
+-- what `Lookahead::of` answers is a
 pub record AheadIs (l : Lookahead) (a : Ahead) : Type 0 where
   pub null : l.null ≡ is_null a
   pub words : l.set.words ≡ first_in a

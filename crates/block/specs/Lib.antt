@@ -4,8 +4,13 @@ pub mod Block
 pub mod Refusal
 pub mod Exact
 pub mod Stages
-pub mod Answer
+pub mod Refused
+pub mod Bodies
+pub mod Symbols
+pub mod Stage
 pub mod Grammar
 pub mod Sets
 pub mod First
+pub mod Inside
+pub mod Firsts
 pub mod Rule1

@@ -1,8 +1,8 @@
 -- Token sets as lists of 64-bit words: token t is bit t mod 64 of word t div 64. Assumes nothing.
-use Rattle.std.specs.Prelude.{Bool, true, false, not, ◌||◌, List, [], ◌∷◌, ◌≡◌, ℕ, zero, suc, ◌-◌, ◌/◌, ◌%◌, ◌^◌, ◌<◌, eqb, length, get_or, set, replicate}
+use Rattle.std.specs.Prelude.{Bool, true, false, not, ◌||◌, List, [], ◌∷◌, ◌≡◌, ℕ, zero, suc, ◌-◌, ◌/◌, ◌%◌, ◌^◌, ◌<◌, ◌≤◌, Option, Some, None, eqb, length, get_or, set, replicate}
 use Rattle.std.specs.Int.Bits.{bit_or, bit_and}
 use Rattle.block.specs.Limits.{WORDS, TOKENS}
-use Rattle.block.specs.Lists.{keep, upto, same}
+use Rattle.block.specs.Lists.{keep, from, upto, same}
 
 -- digit k of x
 unfoldable pub bit : ℕ → ℕ → ℕ
@@ -55,3 +55,21 @@ next_of ws t = seek ws (TOKENS - t) t
 -- the members below n, ascending
 unfoldable pub members : ℕ → List ℕ → List ℕ
 members n ws = keep (mem ws) (upto n)
+
+-- the members from t on and below TOKENS, ascending
+unfoldable pub members_from : List ℕ → ℕ → List ℕ
+members_from ws t = keep (mem ws) (from t (TOKENS - t))
+
+-- no member of ws from t up to r
+abbrev pub NoneIn : List ℕ → ℕ → ℕ → Type 0
+NoneIn ws t r = (u : ℕ) → t ≤ u → u < r → mem ws u ≡ false
+
+-- r is the least member from t on, None where there is none
+abbrev pub IsNextOf : List ℕ → ℕ → Option ℕ → Type 0
+IsNextOf ws t None = (u : ℕ) → t ≤ u → mem ws u ≡ false
+IsNextOf ws t (Some r) = (t ≤ r) × In ws r × NoneIn ws t r
+
+-- the number that stands for such an answer: TOKENS for None
+abbrev pub or_tokens : Option ℕ → ℕ
+or_tokens None = TOKENS
+or_tokens (Some t) = t

@@ -8,6 +8,17 @@ use Rattle.block.specs.Refusal.{Good}
 pub record Headed (b : List ℕ) : Type 0 where
   pub words : HEADER ≤ length b
 
+-- its sizes are in range
+pub record Sized (b : List ℕ) : Type 0 where
+  pub words : HEADER ≤ length b
+  pub tokens-least : 1 ≤ tokens b
+  pub tokens-most : tokens b ≤ TOKENS
+  pub rules-least : 1 ≤ rules b
+  pub rules-most : rules b ≤ RULES
+  pub prods-least : 1 ≤ prods b
+  pub prods-most : prods b ≤ PRODS
+  pub symbols-most : symbols b ≤ SYMBOLS
+
 -- its sizes are in range, and its length is what they say
 pub record Placed (b : List ℕ) : Type 0 where
   pub tokens-least : 1 ≤ tokens b

@@ -1,250 +1,200 @@
-// The checks of a grammar block: document 01's refusals 1 to 6, in its order.
-ghost use Rattle.std.specs.Prelude.{not, ◌≡◌};
+//! The checks of a grammar block: document 01's refusals 1 to 6, in its order.
+// stays: what the checks so far have shown is a clause of the next; a type for each stage would be five that one check makes and the next takes.
+ghost use Rattle.std.specs.Prelude.{not, ◌≡◌, OnOk};
 ghost use Rattle.block.specs.Block.{tokens, prods, prod_prec, token_prec};
 ghost use Rattle.block.specs.Lists.{any, upto};
-ghost use Rattle.block.specs.Refusal.{between, too_large, misplaced, bad_production, start_again, bad_start, good_symbol, bad_symbol, good_prec, refusal_of};
-ghost use Rattle.block.specs.Stages.{Headed, Placed, Listed, Started};
-ghost use Rattle.block.specs.Answer.{number_of, sizes_in};
+ghost use Rattle.block.specs.Refusal.{short_block, too_large, misplaced, bad_production, start_again, bad_start, good_symbol, bad_symbol, good_prec, bad_precedence};
+ghost use Rattle.block.specs.Stages.{Headed, Sized, Placed, Listed, Started};
+ghost use Rattle.block.specs.Stage.{refuse_if, checked};
 
 use crate::limits::{HEADER, LENGTH, LEVEL, PRODS, RULES, SYMBOLS, TOKENS};
-use crate::prods::{read_sizes, word};
+use crate::refusal::BlockRefusal;
 
-#[derive(Clone, Copy)]
-pub struct Sizes {
-    pub tokens: usize,
-    pub rules: usize,
-    pub prods: usize,
-    pub symbols: usize,
-    pub end: usize,
-    pub start: usize,
-}
-
-#[derive(Clone, Copy)]
-pub enum Checked {
-    Good(Sizes),
-    BadHeader,
-    TooLarge,
-    BadProduction,
-    BadStart,
-    BadSymbol,
-    BadPrecedence,
-}
-
-fn in_range(lo: usize, hi: usize, n: usize) -> bool
-    ensures { result ≡ between lo hi n }
+/// It has the words of a header; else refusal 1.
+#[tactic(auto, unfolding(crate::specs::Refusal::short_block))]
+fn has_header(words: &[u32]) -> Result<(), BlockRefusal>
+    ensures refusal { result ≡ refuse_if (short_block words.now) BlockRefusal.BadHeader }
+    ensures headed { OnOk result (Headed words.now) }
 {
-    lo <= n && n <= hi
+    if words.len() < HEADER {
+        return Err(BlockRefusal::BadHeader);
+    }
+    Ok(())
 }
 
-fn too_large(block: &[u32]) -> bool
-    requires { Headed block.now }
-    ensures { result ≡ too_large block.now }
+/// Tokens, rules, productions and symbols are as many as there may be; else refusal 2.
+#[tactic(auto, unfolding(crate::specs::Refusal::too_large))]
+fn has_sizes(words: &[u32]) -> Result<(), BlockRefusal>
+    requires { Headed words.now }
+    ensures refusal { result ≡ refuse_if (too_large words.now) BlockRefusal.TooLarge }
+    ensures sized { OnOk result (Sized words.now) }
 {
-    if !in_range(1, TOKENS, word(block, 0)) {
-        return true;
+    if !(1..=TOKENS).contains(&(words[0] as usize))
+        || !(1..=RULES).contains(&(words[1] as usize))
+        || !(1..=PRODS).contains(&(words[2] as usize))
+        || SYMBOLS < words[3] as usize
+    {
+        return Err(BlockRefusal::TooLarge);
     }
-    if !in_range(1, RULES, word(block, 1)) {
-        return true;
-    }
-    if !in_range(1, PRODS, word(block, 2)) {
-        return true;
-    }
-    !in_range(0, SYMBOLS, word(block, 3))
+    Ok(())
 }
 
-fn places_right(block: &[u32]) -> bool
-    requires { Headed block.now }
-    ensures { result ≡ not (misplaced block.now) }
+/// Its parts stand where the sizes put them, and nothing behind; else refusal 1.
+#[tactic(auto, unfolding(crate::specs::Refusal::misplaced))]
+fn has_places(words: &[u32]) -> Result<(), BlockRefusal>
+    requires { Sized words.now }
+    ensures refusal { result ≡ refuse_if (misplaced words.now) BlockRefusal.BadHeader }
+    ensures placed { OnOk result (Placed words.now) }
 {
-    let symbols_at = HEADER + 4 * word(block, 2);
-    let precs_at = symbols_at + word(block, 3);
-    if word(block, 6) != HEADER {
-        return false;
+    let symbols_at = HEADER + 4 * words[2] as usize;
+    let precs_at = symbols_at + words[3] as usize;
+    if words[6] as usize != HEADER
+        || words[7] as usize != symbols_at
+        || words[8] as usize != precs_at
+        || words.len() != precs_at + words[0] as usize
+    {
+        return Err(BlockRefusal::BadHeader);
     }
-    if word(block, 7) != symbols_at {
-        return false;
-    }
-    if word(block, 8) != precs_at {
-        return false;
-    }
-    block.len() == precs_at + word(block, 0)
+    Ok(())
 }
 
-fn prods_right(block: &[u32]) -> bool
-    requires { Placed block.now }
-    ensures { result ≡ not (bad_production block.now) }
+/// Each production has a rule, its right side begins where the one before it ends and is short enough, and the last ends with the
+/// symbols; else refusal 3.
+fn has_productions(words: &[u32]) -> Result<(), BlockRefusal>
+    requires { Placed words.now }
+    ensures refusal { result ≡ refuse_if (bad_production words.now) BlockRefusal.BadProduction }
+    ensures listed { OnOk result (Listed words.now) }
 {
-    let rules = word(block, 1);
-    let prods = word(block, 2);
     let mut sum = 0;
-    let mut p = 0;
-    while p < prods {
+    for p in 0..words[2] as usize {
         let at = HEADER + 4 * p;
-        if rules <= word(block, at) {
-            return false;
-        }
-        if word(block, at + 1) != sum {
-            return false;
-        }
-        let n = word(block, at + 2);
-        if LENGTH < n {
-            return false;
+        let n = words[at + 2] as usize;
+        if words[1] <= words[at] || words[at + 1] as usize != sum || LENGTH < n {
+            return Err(BlockRefusal::BadProduction);
         }
         sum += n;
-        p += 1;
     }
-    sum == word(block, 3)
+    if sum != words[3] as usize {
+        return Err(BlockRefusal::BadProduction);
+    }
+    Ok(())
 }
 
-// Whether another production has the start production's rule.
-fn rule_again(block: &[u32]) -> bool
-    requires { Started block.now }
-    ensures { result ≡ any (start_again block.now) (upto (prods block.now)) }
+/// No other production has the start production's rule; else refusal 4.
+fn starts_once(words: &[u32]) -> Result<(), BlockRefusal>
+    requires { Started words.now }
+    ensures { result ≡ refuse_if (any (start_again words.now) (upto (prods words.now))) BlockRefusal.BadStart }
 {
-    let prods = word(block, 2);
-    let start = word(block, 5);
-    let rule = word(block, HEADER + 4 * start);
-    let mut q = 0;
-    while q < prods {
-        if word(block, HEADER + 4 * q) == rule && q != start {
-            return true;
+    let start = words[5] as usize;
+    let rule = words[HEADER + 4 * start];
+    for q in 0..words[2] as usize {
+        if words[HEADER + 4 * q] == rule && q != start {
+            return Err(BlockRefusal::BadStart);
         }
-        q += 1;
     }
-    false
+    Ok(())
 }
 
-fn start_right(block: &[u32]) -> bool
-    requires { Listed block.now }
-    ensures { result ≡ not (bad_start block.now) }
+/// The end token is a token, and the start production one whose right side is a rule, the only production of its own; else refusal 4.
+#[tactic(auto, unfolding(crate::specs::Refusal::bad_start))]
+fn has_start(words: &[u32]) -> Result<(), BlockRefusal>
+    requires { Listed words.now }
+    ensures refusal { result ≡ refuse_if (bad_start words.now) BlockRefusal.BadStart }
+    ensures started { OnOk result (Started words.now) }
 {
-    if word(block, 0) <= word(block, 4) {
-        return false;
-    }
-    let prods = word(block, 2);
-    let start = word(block, 5);
-    if prods <= start {
-        return false;
+    let prods = words[2] as usize;
+    let start = words[5] as usize;
+    if words[0] <= words[4] || prods <= start {
+        return Err(BlockRefusal::BadStart);
     }
     let at = HEADER + 4 * start;
-    if word(block, at + 2) != 1 {
-        return false;
+    if words[at + 2] != 1 || words[HEADER + 4 * prods + words[at + 1] as usize] % 2 != 0 {
+        return Err(BlockRefusal::BadStart);
     }
-    let x = word(block, HEADER + 4 * prods + word(block, at + 1));
-    if x % 2 != 0 {
-        return false;
-    }
-    !rule_again(block)
+    starts_once(words)
 }
 
-fn symbol_right(block: &[u32], x: usize) -> bool
-    requires { Started block.now }
-    ensures { result ≡ good_symbol block.now x }
+/// Whether a symbol is a rule but the start rule, or a token but the end token.
+#[tactic(auto, unfolding(crate::specs::Refusal::good_symbol))]
+fn is_symbol(words: &[u32], x: u32) -> bool
+    requires { Started words.now }
+    ensures { result ≡ good_symbol words.now x }
 {
     if x % 2 == 0 {
-        let start = word(block, 5);
-        x / 2 < word(block, 1) && x / 2 != word(block, HEADER + 4 * start)
+        x / 2 < words[1] && x / 2 != words[HEADER + 4 * words[5] as usize]
     } else {
-        x / 2 < word(block, 0) && x / 2 != word(block, 4)
+        x / 2 < words[0] && x / 2 != words[4]
     }
 }
 
-fn symbols_right(block: &[u32]) -> bool
-    requires { Started block.now }
-    ensures { result ≡ not (bad_symbol block.now) }
+/// Each symbol of the right sides is a rule but the start rule, or a token but the end token; else refusal 5.
+fn has_symbols(words: &[u32]) -> Result<(), BlockRefusal>
+    requires { Started words.now }
+    ensures { result ≡ refuse_if (bad_symbol words.now) BlockRefusal.BadSymbol }
 {
-    let at = HEADER + 4 * word(block, 2);
-    let symbols = word(block, 3);
-    let mut i = 0;
-    while i < symbols {
-        if !symbol_right(block, word(block, at + i)) {
-            return false;
+    let at = HEADER + 4 * words[2] as usize;
+    for i in 0..words[3] as usize {
+        if !is_symbol(words, words[at + i]) {
+            return Err(BlockRefusal::BadSymbol);
         }
-        i += 1;
     }
-    true
+    Ok(())
 }
 
-fn prec_right(w: usize) -> bool
-    ensures { result ≡ good_prec w }
+/// Whether a word is a precedence: none, or a kind and a level.
+#[tactic(auto, unfolding(crate::specs::Refusal::good_prec))]
+fn is_precedence(word: u32) -> bool
+    ensures { result ≡ good_prec word }
 {
-    w == 0 || w % 4 != 0 && w / 4 <= LEVEL
+    word == 0 || word % 4 != 0 && word as usize / 4 <= LEVEL
 }
 
-fn prod_precs_right(block: &[u32]) -> bool
-    requires { Placed block.now }
-    ensures { result ≡ not (any (λ p. not (good_prec (prod_prec block.now p))) (upto (prods block.now))) }
+/// Each production has a precedence; else refusal 6.
+fn has_production_precedences(words: &[u32]) -> Result<(), BlockRefusal>
+    requires { Placed words.now }
+    ensures { result ≡ refuse_if (any (λ p. not (good_prec (prod_prec words.now p))) (upto (prods words.now))) BlockRefusal.BadPrecedence }
 {
-    let prods = word(block, 2);
-    let mut p = 0;
-    while p < prods {
-        if !prec_right(word(block, HEADER + 4 * p + 3)) {
-            return false;
+    for p in 0..words[2] as usize {
+        if !is_precedence(words[HEADER + 4 * p + 3]) {
+            return Err(BlockRefusal::BadPrecedence);
         }
-        p += 1;
     }
-    true
+    Ok(())
 }
 
-fn token_precs_right(block: &[u32]) -> bool
-    requires { Placed block.now }
-    ensures { result ≡ not (any (λ t. not (good_prec (token_prec block.now t))) (upto (tokens block.now))) }
+/// Each token has a precedence; else refusal 6.
+fn has_token_precedences(words: &[u32]) -> Result<(), BlockRefusal>
+    requires { Placed words.now }
+    ensures { result ≡ refuse_if (any (λ t. not (good_prec (token_prec words.now t))) (upto (tokens words.now))) BlockRefusal.BadPrecedence }
 {
-    let tokens = word(block, 0);
-    let at = HEADER + 4 * word(block, 2) + word(block, 3);
-    let mut t = 0;
-    while t < tokens {
-        if !prec_right(word(block, at + t)) {
-            return false;
+    let at = HEADER + 4 * words[2] as usize + words[3] as usize;
+    for t in 0..words[0] as usize {
+        if !is_precedence(words[at + t]) {
+            return Err(BlockRefusal::BadPrecedence);
         }
-        t += 1;
     }
-    true
+    Ok(())
 }
 
-// The first fault of a block in document 01's order, or its sizes.
-pub fn check_block(block: &[u32]) -> Checked
-    ensures number { number_of result ≡ refusal_of block.now }
-    ensures sizes { sizes_in result block.now }
+/// Each production and each token has a precedence; else refusal 6.
+#[tactic(auto, unfolding(crate::specs::Refusal::bad_precedence))]
+fn has_precedences(words: &[u32]) -> Result<(), BlockRefusal>
+    requires { Placed words.now }
+    ensures { result ≡ refuse_if (bad_precedence words.now) BlockRefusal.BadPrecedence }
 {
-    if block.len() < HEADER {
-        return Checked::BadHeader;
-    }
-    if too_large(block) {
-        return Checked::TooLarge;
-    }
-    if !places_right(block) {
-        return Checked::BadHeader;
-    }
-    if !prods_right(block) {
-        return Checked::BadProduction;
-    }
-    if !start_right(block) {
-        return Checked::BadStart;
-    }
-    if !symbols_right(block) {
-        return Checked::BadSymbol;
-    }
-    if !prod_precs_right(block) {
-        return Checked::BadPrecedence;
-    }
-    if !token_precs_right(block) {
-        return Checked::BadPrecedence;
-    }
-    Checked::Good(read_sizes(block))
+    has_production_precedences(words)?;
+    has_token_precedences(words)
 }
 
-// Document 01's number of an answer, 0 for a good block.
-pub fn number(c: Checked) -> u32
-    ensures { result ≡ number_of c }
+/// Document 01's first refusal of a block.
+pub(crate) fn check_words(words: &[u32]) -> Result<(), BlockRefusal>
+    ensures { result ≡ checked words.now }
 {
-    match c {
-        Checked::Good(_) => 0,
-        Checked::BadHeader => 1,
-        Checked::TooLarge => 2,
-        Checked::BadProduction => 3,
-        Checked::BadStart => 4,
-        Checked::BadSymbol => 5,
-        Checked::BadPrecedence => 6,
-    }
+    has_header(words)?;
+    has_sizes(words)?;
+    has_places(words)?;
+    has_productions(words)?;
+    has_start(words)?;
+    has_symbols(words)?;
+    has_precedences(words)
 }

@@ -1,15 +1,18 @@
-// The grammar block, token sets, nullable and FIRST.
+//! The grammar block, token sets, nullable and FIRST.
 #![tactic(auto)]
 
 mod check;
-mod first;
+mod grammar;
 pub mod limits;
-mod prods;
+mod lookahead;
 mod queries;
+mod refusal;
 mod set;
+mod symbol;
 
-pub use check::{Checked, Sizes, check_block, number};
-pub use first::{FirstSets, Lookahead, first_of, firsts};
-pub use prods::{body_of, first_index, length_of, prod_prec, rule_of, sizes_of, token_prec, word};
-pub use queries::{body, body_refusal};
-pub use set::{TokenSet, load, store};
+pub use grammar::Grammar;
+pub use lookahead::{Firsts, Lookahead};
+pub use queries::{BodyRefusal, body, body_refusal};
+pub use refusal::BlockRefusal;
+pub use set::{TokenSet, Tokens};
+pub use symbol::Symbol;

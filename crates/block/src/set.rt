@@ -1,17 +1,20 @@
-// A token set: token t is bit t mod 64 of word t div 64.
-ghost use Rattle.std.specs.Prelude.{true, false, ◌||◌, ◌↔◌, ◌≡◌, ℕ, ◌+◌, ◌<◌, ◌≤◌, eqb, length, take, drop};
+//! Sets of tokens.
+ghost use Rattle.std.specs.Prelude.{true, false, ◌||◌, ◌↔◌, ◌≡◌, ℕ, ◌+◌, ◌-◌, ◌<◌, ◌≤◌, IfSome, MatchOption, ⊤, eqb, length, take, drop};
+ghost use Rattle.std.specs.Iterator.{at_most, YieldsFirst};
 ghost use Rattle.std.proofs.Math.Seq.{paste};
 ghost use Rattle.block.specs.Limits.{WORDS, TOKENS};
-ghost use Rattle.block.specs.Sets.{mem, In, empty, with, join, meets, next_of};
+ghost use Rattle.block.specs.Sets.{mem, In, empty, with, join, meets, next_of, IsNextOf, or_tokens, members_from};
 
 use crate::limits::{TOKENS, WORDS};
 
-#[derive(Clone, Copy)]
+/// A set of tokens: token t is bit t mod 64 of word t div 64.
+#[derive(Clone, Copy, Debug, PartialEq, Eq)]
 pub struct TokenSet {
     pub words: [u64; WORDS],
 }
 
 impl TokenSet {
+    /// The set with no token.
     pub fn empty() -> Self
         ensures words { result.words ≡ empty }
         ensures members { (u : ℕ) → mem result.words u ≡ false }
@@ -19,109 +22,106 @@ impl TokenSet {
         TokenSet { words: [0; WORDS] }
     }
 
-    pub fn has(self, t: usize) -> bool
-        ensures { result ≡ mem self.words t }
+    /// The set whose words stand from `at` on.
+    pub fn load(words: &[u64], at: usize) -> Self
+        requires { at + WORDS ≤ length words.now }
+        ensures { result.words ≡ take WORDS (drop at words.now) }
     {
-        if t < TOKENS {
-            let w = t / 64;
-            (self.words[w] >> (t % 64)) & 1 == 1
-        } else {
-            false
-        }
+        let mut set = TokenSet::empty();
+        set.words.copy_from_slice(&words[at..at + WORDS]);
+        set
     }
 
-    // The set with one token more.
-    pub fn with(self, t: usize) -> Self
-        requires { t < TOKENS }
-        ensures words { result.words ≡ with self.words t }
-        ensures members { (u : ℕ) → mem result.words u ≡ (mem self.words u || eqb u t) }
+    /// Its words put from `at` on.
+    pub fn store(self, words: &mut [u64], at: usize)
+        requires { at + WORDS ≤ length words.old }
+        ensures { words.new ≡ paste words.old at self.words WORDS }
     {
-        let w = t / 64;
-        let mut s = self;
-        s.words[w] = s.words[w] | (1 << (t % 64));
-        s
+        words[at..at + WORDS].copy_from_slice(&self.words);
     }
 
-    pub fn join(self, other: TokenSet) -> Self
+    /// Whether the token is a member; from TOKENS on none is.
+    pub fn has(self, token: usize) -> bool
+        ensures { result ≡ mem self.words token }
+    {
+        token < TOKENS && self.words[token / 64] >> (token % 64) & 1 == 1
+    }
+
+    /// The set with one token more.
+    pub fn with(self, token: usize) -> Self
+        requires { token < TOKENS }
+        ensures words { result.words ≡ with self.words token }
+        ensures members { (u : ℕ) → mem result.words u ≡ (mem self.words u || eqb u token) }
+    {
+        let mut set = self;
+        set.words[token / 64] |= 1 << (token % 64);
+        set
+    }
+
+    /// The tokens of either.
+    pub fn join(self, other: Self) -> Self
         ensures words { result.words ≡ join self.words other.words }
         ensures members { (u : ℕ) → mem result.words u ≡ (mem self.words u || mem other.words u) }
     {
-        let mut s = self;
-        let mut i = 0;
-        while i < WORDS {
-            s.words[i] = s.words[i] | other.words[i];
-            i += 1;
+        let mut set = self;
+        for i in 0..WORDS {
+            set.words[i] |= other.words[i];
         }
-        s
+        set
     }
 
-    // Whether some token is in both.
-    pub fn meets(self, other: TokenSet) -> bool
+    /// Whether some token is in both.
+    pub fn meets(self, other: Self) -> bool
         ensures words { result ≡ meets self.words other.words }
         ensures members { (result ≡ true) ↔ ((u : ℕ) × In self.words u × In other.words u) }
     {
-        let mut i = 0;
-        while i < WORDS {
+        for i in 0..WORDS {
             if self.words[i] & other.words[i] != 0 {
                 return true;
             }
-            i += 1;
         }
         false
     }
 
-    pub fn same(self, other: TokenSet) -> bool
-        ensures words { (result ≡ true) ↔ (self.words ≡ other.words) }
-        ensures members { (result ≡ true) ↔ ((u : ℕ) → mem self.words u ≡ mem other.words u) }
+    /// The least member from `from` on.
+    pub fn next(self, from: usize) -> Option<usize>
+        ensures next { IsNextOf self.words from result }
+        ensures below { IfSome result (λ t. t < TOKENS) }
+        ensures number { from ≤ TOKENS → or_tokens result ≡ next_of self.words from }
     {
-        let mut i = 0;
-        while i < WORDS {
-            if self.words[i] != other.words[i] {
-                return false;
-            }
-            i += 1;
-        }
-        true
+        (from..TOKENS).find(|token| self.has(*token))
     }
 
-    // The least member from `from` on, or TOKENS.
-    pub fn next(self, from: usize) -> usize
-        requires { from ≤ TOKENS }
-        ensures { result ≡ next_of self.words from }
+    /// Its tokens, ascending.
+    pub fn tokens(self) -> Tokens
+        ensures { (result.set.words ≡ self.words) × (result.from ≡ 0) }
     {
-        let mut t = from;
-        while t < TOKENS {
-            if self.has(t) {
-                return t;
-            }
-            t += 1;
-        }
-        TOKENS
+        Tokens { set: self, from: 0 }
     }
 }
 
-// The set whose words stand from `at` on.
-pub fn load(s: &[u64], at: usize) -> TokenSet
-    requires { at + WORDS ≤ length s.now }
-    ensures { result.words ≡ take WORDS (drop at s.now) }
-{
-    let mut words = [0; WORDS];
-    let mut i = 0;
-    while i < WORDS {
-        words[i] = s[at + i];
-        i += 1;
-    }
-    TokenSet { words }
+/// The tokens of a set from a number on, ascending.
+#[derive(Clone, Copy)]
+pub struct Tokens {
+    pub set: TokenSet,
+    pub from: usize,
 }
 
-// The words of a set put from `at` on.
-pub fn store(s: &mut [u64], at: usize, x: TokenSet)
-    requires { at + WORDS ≤ length s.old }
-    ensures { s.new ≡ paste s.old at x.words WORDS }
-{
-    let mut i = 0;
-    while i < WORDS {
-        s[at + i] = x.words[i];
-        i += 1;
+impl Iterator for Tokens {
+    type Item = usize;
+
+    ghost can_next = { λ _. ⊤ };
+
+    ghost next_gives = { λ s r t. IsNextOf s.set.words s.from r
+        × YieldsFirst (λ x. members_from x.set.words x.from) s r t
+        × (t.set.words ≡ s.set.words)
+        × MatchOption r (t.from ≡ s.from) (λ n. (n < TOKENS) × (t.from ≡ n + 1)) };
+
+    ghost remaining = { λ s. at_most (TOKENS - s.from) };
+
+    fn next(&mut self) -> Option<usize> {
+        let token = self.set.next(self.from)?;
+        self.from = token + 1;
+        Some(token)
     }
 }

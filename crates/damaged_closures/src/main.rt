@@ -1,9 +1,10 @@
-// Replays a short list of closures that was damaged in its second line and those behind it: what differs is told.
+//! Replays a short list of closures that was damaged in its second line and those behind it: what differs is told.
 #![tactic(auto)]
 
+use replay::{List, replay};
 use std::io;
 
 fn main(rt: HostRuntime) -> io::Result<()> {
-    replay::replay(&rt, b"damaged closures: ", replay::CLOSURES)?;
+    replay(&rt, b"damaged closures: ", List::Closures.number())?;
     Ok(())
 }

@@ -4,6 +4,7 @@ use mathlib.Core.Bool.{Bool, true, false, cond}
 use mathlib.Core.List.{List}
 use mathlib.Core.Path.{◌≡◌, refl, sym, ap, subst, ◌∙◌}
 use Prim.Native.Nat.{ℕ, zero, suc, ◌+◌, ◌*◌, ◌<◌}
+use native.Mathlib.Nat.{suc-mul, mul-le-mul_right}
 use native.Mathlib.Omega.{arith}
 use lib.ListN.{length}
 use Rattle.knuth.specs.Tables.{Agree}
@@ -25,7 +26,6 @@ use Rattle.statetable.specs.Cell.{decode}
 use Rattle.statetable.specs.Read.{tables_in}
 use Rattle.statetable.specs.Build.{Buffers, limits_of, build_call}
 use Rattle.statetable.specs.Clean.{CheckedTables}
-use Rattle.statetable.proofs.Asked.{word-within}
 use Rattle.statetable.proofs.BuildLaws.{let-in}
 use Rattle.statetable.proofs.Clean.{clean, checked-tables}
 use Rattle.machine.specs.Limits.{INPUT, STEPS}
@@ -58,6 +58,10 @@ roomy a k e h =
       allows = h;
     }
 
+-- the cell of state s at place i stands among the words of a table
+word-within : (states width s i : ℕ) → s < states → i < width → s * width + i < states * width
+word-within states width s i h k = omega (arith, mul-le-mul_right {m = suc s} {n = states} width h, suc-mul s width)
+
 -- ---- the runs on the tables of a clean build
 module _ (b : List ℕ) (states : ℕ) (l : Buffers) (good : Good b) (C : CheckedTables b states l) where
   below : (s : ℕ) → s < states → s < (tables C.automaton).states
@@ -67,8 +71,8 @@ module _ (b : List ℕ) (states : ℕ) (l : Buffers) (good : Good b) (C : Checke
   agree_on a o =
       record {
         states = sym C.agree.states;
-        action = λ s t i j. ap decode (o.actions (s * tokens b + t) (word-within states a.actions (tokens b) s t i j)) ∙ sym (C.agree.action s t (below s i) j);
-        goto = λ s r i j. ap target (o.gotos (s * rules b + r) (word-within states a.gotos (rules b) s r i j)) ∙ sym (C.agree.goto s r (below s i) j);
+        action = λ s t i j. ap decode (o.actions (s * tokens b + t) (word-within states (tokens b) s t i j)) ∙ sym (C.agree.action s t (below s i) j);
+        goto = λ s r i j. ap target (o.gotos (s * rules b + r) (word-within states (rules b) s r i j)) ∙ sym (C.agree.goto s r (below s i) j);
       }
 
   exactly-on : (a : Call) → OnTables b states l a → Exactly a

@@ -3,38 +3,39 @@ use mathlib.Core.Bool.{true, false}
 use mathlib.Core.List.{List, [], ◌∷◌}
 use mathlib.Core.Path.{◌≡◌, refl, sym, ap, ◌∙◌}
 use Prim.Native.Nat.{ℕ, zero, suc}
+use Rattle.std.specs.Prelude.{IfOk, Result, Ok, Err}
 use Rattle.knuth.specs.Tables as theory
-use Rattle.block.specs.Answer.{number_of, sizes_in, sizes_of}
-use Rattle.block.specs.declared.check.Checked.{Checked}
-use Rattle.block.specs.declared.check.Checked.TheVariants.{Good, BadHeader, TooLarge, BadProduction, BadStart, BadSymbol, BadPrecedence}
+use Rattle.block.specs.Refused.{told}
+use Rattle.block.specs.declared.grammar.Grammar.{Grammar}
+use Rattle.block.specs.declared.refusal.BlockRefusal.{BlockRefusal}
 use Rattle.block.specs.declared.set.TokenSet.{TokenSet}
 use Rattle.pager.specs.Lists.{Answer, is, refused}
 use Rattle.statetable.specs.Named.{action_of}
-use Rattle.statetable.specs.Queries.{found_of, acted_of}
+use Rattle.statetable.specs.Queries.{number_of as query_number, found_of, acted_of}
 use Rattle.statetable.specs.declared.cell.Action.{Action}
 use Rattle.statetable.specs.declared.cell.Action.TheVariants.{Error, Shift, Reduce, Accept}
-use Rattle.statetable.specs.declared.queries.Found.{Found}
-use Rattle.statetable.specs.declared.queries.Acts.{Acts}
-use Rattle.demand3.specs.Unique.{ClaimChecked, ClaimDecode, ClaimFound, ClaimActs, ClaimSet, ClaimYes, ClaimRows, ClaimSights}
+use Rattle.statetable.specs.declared.queries.QueryRefusal.{QueryRefusal}
+use Rattle.statetable.specs.declared.queries.QueryRefusal.TheVariants.{Block, RoomShort, NoSuch}
+use Rattle.demand3.specs.Unique.{words_in, ClaimChecked, ClaimDecode, ClaimFound, ClaimActs, ClaimSet, ClaimYes, ClaimRows, ClaimSights}
 
--- ---- `check_block`
-abbrev checked : List ℕ → ℕ → Checked
-checked b zero = Good (sizes_of b)
-checked b (suc zero) = BadHeader
-checked b (suc (suc zero)) = TooLarge
-checked b (suc (suc (suc zero))) = BadProduction
-checked b (suc (suc (suc (suc zero)))) = BadStart
-checked b (suc (suc (suc (suc (suc zero))))) = BadSymbol
-checked b (suc (suc (suc (suc (suc (suc n)))))) = BadPrecedence
+-- ---- `Grammar::check`
+abbrev checked : List ℕ → ℕ → Result (List ℕ) BlockRefusal
+checked b zero = Ok b
+checked b (suc zero) = Err BlockRefusal.BadHeader
+checked b (suc (suc zero)) = Err BlockRefusal.TooLarge
+checked b (suc (suc (suc zero))) = Err BlockRefusal.BadProduction
+checked b (suc (suc (suc (suc zero)))) = Err BlockRefusal.BadStart
+checked b (suc (suc (suc (suc (suc zero))))) = Err BlockRefusal.BadSymbol
+checked b (suc (suc (suc (suc (suc (suc n)))))) = Err BlockRefusal.BadPrecedence
 
-checked-is : (b : List ℕ) (r : Checked) → sizes_in r b → r ≡ checked b (number_of r)
-checked-is b (Good z) e = ap Good e
-checked-is b BadHeader e = refl
-checked-is b TooLarge e = refl
-checked-is b BadProduction e = refl
-checked-is b BadStart e = refl
-checked-is b BadSymbol e = refl
-checked-is b BadPrecedence e = refl
+checked-is : (b : List ℕ) (r : Result Grammar BlockRefusal) → IfOk r (λ g. g.words.now ≡ b) → words_in r ≡ checked b (told r)
+checked-is b (Ok g) e = ap Ok e
+checked-is b (Err BlockRefusal.BadHeader) e = refl
+checked-is b (Err BlockRefusal.TooLarge) e = refl
+checked-is b (Err BlockRefusal.BadProduction) e = refl
+checked-is b (Err BlockRefusal.BadStart) e = refl
+checked-is b (Err BlockRefusal.BadSymbol) e = refl
+checked-is b (Err BlockRefusal.BadPrecedence) e = refl
 
 pub checked-one : ClaimChecked
 checked-one b n r r' e s e' s' = checked-is b r s ∙ ap (checked b) (e ∙ sym e') ∙ sym (checked-is b r' s')
@@ -56,35 +57,49 @@ pub decode-one : ClaimDecode
 decode-one a r r' e e' = action-is r ∙ ap action (e ∙ sym e') ∙ sym (action-is r')
 
 -- ---- the queries
-abbrev found : Answer ℕ → Found
-found (is w) = Found.Word w
-found (refused []) = Found.Refused 0
-found (refused (n ∷ more)) = Found.Refused n
+abbrev query_refusal : ℕ → QueryRefusal
+query_refusal zero = NoSuch
+query_refusal (suc zero) = Block BlockRefusal.BadHeader
+query_refusal (suc (suc zero)) = Block BlockRefusal.TooLarge
+query_refusal (suc (suc (suc zero))) = Block BlockRefusal.BadProduction
+query_refusal (suc (suc (suc (suc zero)))) = Block BlockRefusal.BadStart
+query_refusal (suc (suc (suc (suc (suc zero))))) = Block BlockRefusal.BadSymbol
+query_refusal (suc (suc (suc (suc (suc (suc zero)))))) = Block BlockRefusal.BadPrecedence
+query_refusal (suc (suc (suc (suc (suc (suc (suc zero))))))) = RoomShort
+query_refusal (suc (suc (suc (suc (suc (suc (suc (suc n)))))))) = NoSuch
 
-found-is : (r : Found) → r ≡ found (found_of r)
-found-is (Found.Word w) = refl
-found-is (Found.Refused n) = refl
+query_refusal-is : (e : QueryRefusal) → e ≡ query_refusal (query_number e)
+query_refusal-is (Block BlockRefusal.BadHeader) = refl
+query_refusal-is (Block BlockRefusal.TooLarge) = refl
+query_refusal-is (Block BlockRefusal.BadProduction) = refl
+query_refusal-is (Block BlockRefusal.BadStart) = refl
+query_refusal-is (Block BlockRefusal.BadSymbol) = refl
+query_refusal-is (Block BlockRefusal.BadPrecedence) = refl
+query_refusal-is RoomShort = refl
+query_refusal-is NoSuch = refl
+
+-- an answer read back, by what an answer of the theory is in the code
+abbrev asked : {A B : Type 0} → (A → B) → Answer A → Result B QueryRefusal
+asked f (is a) = Ok (f a)
+asked f (refused []) = Err NoSuch
+asked f (refused (n ∷ more)) = Err (query_refusal n)
+
+found-is : (r : Result ℕ QueryRefusal) → r ≡ asked (λ w. w) (found_of r)
+found-is (Ok w) = refl
+found-is (Err e) = ap Err (query_refusal-is e)
 
 pub found-one : ClaimFound
-found-one a r r' e e' = found-is r ∙ ap found (e ∙ sym e') ∙ sym (found-is r')
+found-one a r r' e e' = found-is r ∙ ap (asked (λ w. w)) (e ∙ sym e') ∙ sym (found-is r')
 
-abbrev acts : Answer theory.Action → Acts
-acts (is theory.Action.error) = Acts.Error
-acts (is (theory.Action.shift u)) = Acts.Shift u
-acts (is (theory.Action.reduce p)) = Acts.Reduce p
-acts (is theory.Action.accept) = Acts.Accept
-acts (refused []) = Acts.Refused 0
-acts (refused (n ∷ more)) = Acts.Refused n
-
-acts-is : (r : Acts) → r ≡ acts (acted_of r)
-acts-is Acts.Error = refl
-acts-is (Acts.Shift u) = refl
-acts-is (Acts.Reduce p) = refl
-acts-is Acts.Accept = refl
-acts-is (Acts.Refused n) = refl
+acts-is : (r : Result Action QueryRefusal) → r ≡ asked action (acted_of r)
+acts-is (Ok Error) = refl
+acts-is (Ok (Shift u)) = refl
+acts-is (Ok (Reduce p)) = refl
+acts-is (Ok Accept) = refl
+acts-is (Err e) = ap Err (query_refusal-is e)
 
 pub acts-one : ClaimActs
-acts-one a r r' e e' = acts-is r ∙ ap acts (e ∙ sym e') ∙ sym (acts-is r')
+acts-one a r r' e e' = acts-is r ∙ ap (asked action) (e ∙ sym e') ∙ sym (acts-is r')
 
 -- ---- sets, tests, rows, symbols
 abbrev set_of : List ℕ → TokenSet

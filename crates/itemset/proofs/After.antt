@@ -4,17 +4,17 @@ use mathlib.Core.List.{List, [], ◌∷◌}
 use mathlib.Core.Path.{◌≡◌, refl, sym, ap, ◌∙◌}
 use Prim.Native.Nat.{ℕ, suc, ◌/◌, ◌%◌, ◌≤◌, ◌<◌}
 use native.Mathlib.Omega.{arith}
-use lib.Dec.{eqb}
 use lib.ListN.{length, get_or, drop, drop_of_length-le}
 use lib.Seq.{drop-cons}
 use borrow.Author.Tests.{eqb-true, eqb-false}
+use Rattle.std.specs.Prelude.{Option, Some, None, MatchOption, option_map, unwrap_or, option_copied}
+use denote.Bor.{Bor}
 use Rattle.block.specs.Limits.{DOTS}
 use Rattle.block.specs.Block.{body_of}
 use Rattle.itemset.specs.Rows.{row}
 use Rattle.itemset.specs.Close.{rest_of}
 use Rattle.itemset.specs.Goto.{move}
 use Rattle.itemset.specs.Sights.{after_of, is_next}
-use Rattle.itemset.specs.declared.goto.After.TheVariants.{Symbol, End}
 use Rattle.itemset.proofs.Moves.{move-end, move-over, move-other}
 
 -- ---- read in the right side
@@ -23,26 +23,26 @@ module _ (b : List ℕ) (i : ℕ) (body : List ℕ) (is : body ≡ body_of b (i 
   unfolding rest_of
   rest-is = ap (λ (u : List ℕ). drop (i % DOTS) u) (sym is)
 
-  pub after-symbol : i % DOTS < length body → Symbol (get_or body (i % DOTS) 0) ≡ after_of (rest_of b i)
+  after-symbol : i % DOTS < length body → Some (get_or body (i % DOTS) 0) ≡ after_of (rest_of b i)
   after-symbol l = sym (ap after_of (rest-is ∙ drop-cons body (i % DOTS) 0 l))
 
-  pub after-end : length body ≤ i % DOTS → End ≡ after_of (rest_of b i)
+  after-end : length body ≤ i % DOTS → None ≡ after_of (rest_of b i)
   after-end l = sym (ap after_of (rest-is ∙ drop_of_length-le body l))
 
+  -- what `get` answers
+  pub after-got : (o : Option (Bor ℕ)) (Q : Bor ℕ → Type 0) → MatchOption o (length body ≤ i % DOTS) (λ x. (i % DOTS < length body) × Q x)
+      → unwrap_or (option_map (λ x. x.now) o) 0 ≡ get_or body (i % DOTS) 0 → option_copied o ≡ after_of (rest_of b i)
+  after-got None Q h e = after-end h
+  after-got (Some x) Q h e = ap {B = Option ℕ} (λ (y : ℕ). Some y) e ∙ after-symbol h.0
+
 -- ---- what an answer says of the rest
-pub symbol-rest : (w : List ℕ) (y : ℕ) → Symbol y ≡ after_of w → w ≡ y ∷ drop 1 w
+pub symbol-rest : (w : List ℕ) (y : ℕ) → Some y ≡ after_of w → w ≡ y ∷ drop 1 w
 symbol-rest [] y e = let z : ◌≡◌ {A = ℕ} 0 1 = cc in absurd (omega arith)
 symbol-rest (x ∷ w) y e = let z : x ≡ y = cc in ap {B = List ℕ} (λ v. v ∷ w) z
 
-pub end_rest : (w : List ℕ) → End ≡ after_of w → w ≡ []
+pub end_rest : (w : List ℕ) → None ≡ after_of w → w ≡ []
 end_rest [] e = refl
 end_rest (x ∷ w) e = let z : ◌≡◌ {A = ℕ} 0 1 = cc in absurd (omega arith)
-
-pub symbol-next : (w : List ℕ) (x y : ℕ) → Symbol y ≡ after_of w → eqb y x ≡ is_next w x
-symbol-next w x y e = sym (ap (λ (u : List ℕ). is_next u x) (symbol-rest w y e))
-
-pub end-next : (w : List ℕ) (x : ℕ) → End ≡ after_of w → false ≡ is_next w x
-end-next w x e = sym (ap (λ (u : List ℕ). is_next u x) (end_rest w e))
 
 -- ---- so the row is moved, or it is not
 next-rest : (w : List ℕ) (x : ℕ) → is_next w x ≡ true → w ≡ x ∷ drop 1 w

@@ -33,3 +33,4 @@ pub mod Going
 pub mod Seen
 pub mod Right
 pub mod Read
+pub mod Chunks

@@ -2,10 +2,10 @@
 use mathlib.Core.Bool.{Bool, true, false, ◌&&◌}
 use mathlib.Core.List.{List, [], ◌∷◌}
 use mathlib.Core.Logic.{inl, inr}
-use mathlib.Core.Path.{◌≡◌, refl, sym, ap, ap₂, ◌∙◌, subst}
+use mathlib.Core.Path.{◌≡◌, refl, sym, ap, ap₂, subst}
 use Prim.Native.Nat.{ℕ, suc, ◌/◌, ◌%◌, ◌≤◌, ◌<◌}
 use lib.Dec.{ltb, leb}
-use borrow.Author.Tests.{ltb-true, leb-true, lt-ltb, le-ltb, le-leb, lt-leb}
+use borrow.Author.Tests.{ltb-true, leb-true, lt-ltb, le-leb, lt-leb}
 use Rattle.block.specs.Limits.{DOTS}
 use Rattle.block.specs.Block.{prods, length_of}
 use Rattle.block.proofs.ListLaws.{and_both}
@@ -23,15 +23,6 @@ module _ (b : List ℕ) (k : ℕ) where
   pub item-right : Item b k → item_right b k ≡ true
   unfolding item_right
   item-right I = ap₂ ◌&&◌ (lt-ltb (k / DOTS) (prods b) I.prod) (le-leb (k % DOTS) (length_of b (k / DOTS)) I.dot)
-
-  pub no-prod : prods b ≤ k / DOTS → false ≡ item_right b k
-  unfolding item_right
-  no-prod l = sym (ap (λ (c : Bool). c && leb (k % DOTS) (length_of b (k / DOTS))) (le-ltb (k / DOTS) (prods b) l))
-
-  pub dot-right : k / DOTS < prods b → (n : ℕ) → n ≡ length_of b (k / DOTS) → leb (k % DOTS) n ≡ item_right b k
-  unfolding item_right
-  dot-right l n e =
-      ap (λ (m : ℕ). leb (k % DOTS) m) e ∙ sym (ap (λ (c : Bool). c && leb (k % DOTS) (length_of b (k / DOTS))) (lt-ltb (k / DOTS) (prods b) l))
 
 -- ---- rows: their items are items of the grammar, ascending from m on
 unfoldable pub right_rows : List ℕ → ℕ → List Row → Bool

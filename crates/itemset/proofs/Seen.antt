@@ -10,6 +10,7 @@ use native.Mathlib.Omega.{arith}
 use lib.Dec.{eqb}
 use lib.ListN.{length, get_or, take, drop, set, replicate, length-append, length-set}
 use lib.Seq.{append_snoc, set_at, get_or-set_same, get_or-set_other, take_all}
+use Rattle.std.specs.Prelude.{Some, None}
 use Rattle.block.specs.Limits.{WORDS, ITEM, RULES, TOKENS}
 use Rattle.block.specs.Lists.{any}
 use Rattle.block.specs.First.{firsts_of}
@@ -19,7 +20,6 @@ use Rattle.itemset.specs.Close.{rest_of}
 use Rattle.itemset.specs.Goto.{sight, sights_of}
 use Rattle.itemset.specs.Lent.{RowsIn}
 use Rattle.itemset.specs.Sights.{SIGHTS, NUMBERS, after_of, SightsAre}
-use Rattle.itemset.specs.declared.goto.After.TheVariants.{Symbol, End}
 use Rattle.itemset.proofs.RowLaws.{both_ways}
 use Rattle.itemset.proofs.Members.{any-among, among-left, among-right, among-either}
 use Rattle.itemset.proofs.Distinct.{few-symbols}
@@ -119,10 +119,10 @@ module _ {b ws : List ℕ} {C : List Row} (R : RowsIn b ws C) where
         ap (λ (n : ℕ). sights_of b (take n C)) (add-one i) ∙ sights-take b C i m ∙ ap (sight b (sights_of b (take i C))) (in_row R i m)
 
     module _ {seen : List Bool} {symbols : List ℕ} {count : ℕ} (S : Seen seen symbols count (sights_of b (take i C))) where
-      pub step_end : End ≡ after_of (rest_of b item) → Seen seen symbols count (sights_of b (take (i + 1) C))
+      pub step_end : None ≡ after_of (rest_of b item) → Seen seen symbols count (sights_of b (take (i + 1) C))
       step_end e = subst (λ u. Seen seen symbols count u) (sym (step ∙ sight-end b (sights_of b (take i C)) item context (end_rest (rest_of b item) e))) S
 
-      module _ (x : ℕ) (e : Symbol x ≡ after_of (rest_of b item)) where
+      module _ (x : ℕ) (e : Some x ≡ after_of (rest_of b item)) where
         rest : rest_of b item ≡ x ∷ drop 1 (rest_of b item)
         rest = symbol-rest (rest_of b item) x e
 

@@ -1,10 +1,8 @@
 pub mod Cells
-pub mod Feeding
 pub mod Offers
 pub mod Changes
 pub mod Steps
 pub mod Weight
-pub mod Owned
 pub mod Seeding
 pub mod Turns
 pub mod Closes

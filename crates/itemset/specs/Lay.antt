@@ -3,14 +3,14 @@ use Rattle.std.specs.Prelude.{Bool, true, false, ◌&&◌, cond, List, [], ◌�
 use Rattle.block.specs.Limits.{DOTS, ITEM, PRODS}
 use Rattle.block.specs.Block.{prods}
 use Rattle.itemset.specs.Rows.{Row, row}
-use Rattle.itemset.specs.declared.zeros.Zeros.{Zeros}
+use Rattle.itemset.specs.declared.closure.Closure.{Closure}
 
 -- the marks of the items with dot 0 that are there, and their contexts, by production
-abbrev pub marks_of : Zeros → ℕ → Bool
+abbrev pub marks_of : Closure → ℕ → Bool
 marks_of z q = get_or z.here q false
 
-abbrev pub contexts_of : Zeros → ℕ → List ℕ
-contexts_of z q = (get_or z.ctx q (record { words = [] })).words
+abbrev pub contexts_of : Closure → ℕ → List ℕ
+contexts_of z q = (get_or z.contexts q (record { words = [] })).words
 
 -- the item of row k in the words, or behind the last row a number above every item
 unfoldable pub next_item : List ℕ → ℕ → ℕ

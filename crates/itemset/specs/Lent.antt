@@ -1,10 +1,9 @@
 -- What the calls of this crate are lent, and what they leave. Assumes nothing.
-use Rattle.std.specs.Prelude.{Bool, List, ◌++◌, ◌≡◌, ℕ, ◌+◌, ◌*◌, ◌≤◌, ◌<◌, length, drop}
+use Rattle.std.specs.Prelude.{List, ◌++◌, ◌≡◌, ℕ, ◌+◌, ◌*◌, ◌≤◌, ◌<◌, length, drop}
 use Rattle.block.specs.Limits.{WORDS, ITEM}
 use Rattle.block.specs.Block.{prods, symbols}
 use Rattle.block.specs.Refusal.{Good}
 use Rattle.block.specs.Sets.{Fits}
-use Rattle.block.specs.First.{firsts_of, Stored}
 use Rattle.itemset.specs.Rows.{Row, Rows, words_of}
 
 -- the words are rows of a good block
@@ -13,10 +12,9 @@ pub record RowsIn (b ws : List ℕ) (rs : List Row) : Type 0 where
   pub rows : Rows b rs
   pub words : ws ≡ words_of rs
 
--- for a closure: the block's FIRST sets, the rows of a kernel, and room for every row
-pub record ForClosure (b : List ℕ) (nullable : List Bool) (first ws out : List ℕ) (K : List Row) : Type 0 where
+-- for a closure: the rows of a kernel, and room for every row
+pub record ForClosure (b ws out : List ℕ) (K : List Row) : Type 0 where
   pub kernel : RowsIn b ws K
-  pub firsts : Stored (firsts_of b) nullable first
   pub room : ITEM * (symbols b + prods b) ≤ length out
 
 -- to lay rows out: the rows of a kernel, contexts that are token sets, and room for every row

@@ -1,9 +1,7 @@
 -- What the code of rule 4 answers: what is behind a dot, and the symbols sighted. Assumes nothing.
-use Rattle.std.specs.Prelude.{Bool, false, List, [], ◌∷◌, ◌++◌, ◌≡◌, ℕ, ◌+◌, ◌-◌, ◌*◌, eqb, length, replicate}
+use Rattle.std.specs.Prelude.{Bool, false, Option, Some, None, List, [], ◌∷◌, ◌++◌, ◌≡◌, ℕ, ◌+◌, ◌-◌, ◌*◌, eqb, length, replicate}
 use Rattle.block.specs.Limits.{RULES, TOKENS}
 use Rattle.itemset.specs.declared.goto.Sights.{Sights}
-use Rattle.itemset.specs.declared.goto.After.{After}
-use Rattle.itemset.specs.declared.goto.After.TheVariants.{Symbol, End}
 
 -- most symbols
 abbrev pub SIGHTS : ℕ
@@ -13,10 +11,10 @@ SIGHTS = RULES + TOKENS
 abbrev pub NUMBERS : ℕ
 NUMBERS = 2 * SIGHTS
 
--- the symbol in front of a rest
-abbrev pub after_of : List ℕ → After
-after_of [] = End
-after_of (x ∷ w) = Symbol x
+-- the symbol in front of a rest, if one is there
+abbrev pub after_of : List ℕ → Option ℕ
+after_of [] = None
+after_of (x ∷ w) = Some x
 
 abbrev pub is_next : List ℕ → ℕ → Bool
 is_next [] x = false

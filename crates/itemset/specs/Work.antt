@@ -3,53 +3,59 @@ use Rattle.std.specs.Prelude.{Bool, true, false, List, [], ◌⊎◌, ◌≡◌,
 use Rattle.knuth.specs.Closure.{Closed, Holds}
 use Rattle.block.specs.Limits.{WORDS, DOTS, PRODS}
 use Rattle.block.specs.Block.{prods, rule_of}
-use Rattle.block.specs.Refusal.{Good}
 use Rattle.block.specs.Grammar.{grammar_of}
 use Rattle.block.specs.Sets.{In, Fits, join}
-use Rattle.block.specs.First.{Ahead, ahead_of, firsts_of, Stored}
+use Rattle.block.specs.First.{Ahead, ahead_of, firsts_of}
 use Rattle.itemset.specs.Rows.{Row, row}
 use Rattle.itemset.specs.Kernel.{kernel_of}
 use Rattle.itemset.specs.Close.{handed}
 use Rattle.itemset.specs.Opens.{Opens, Done}
 use Rattle.itemset.specs.Lay.{marks_of, contexts_of}
 use Rattle.itemset.specs.Lent.{RowsIn}
-use Rattle.itemset.specs.declared.zeros.Zeros.{Zeros}
+use Rattle.itemset.specs.declared.closure.Closure.{Closure}
 
 -- whether production q has still to be looked at
-abbrev pub todo_of : Zeros → ℕ → Bool
+abbrev pub todo_of : Closure → ℕ → Bool
 todo_of z q = get_or z.todo q false
 
-pub record Sized (z : Zeros) : Type 0 where
+pub record Sized (z : Closure) : Type 0 where
   pub todo : length z.todo ≡ PRODS
   pub here : length z.here ≡ PRODS
-  pub ctx : length z.ctx ≡ PRODS
+  pub contexts : length z.contexts ≡ PRODS
 
 -- ---- a step from y to z, at production q
 -- nothing has changed
-pub record Same (y z : Zeros) (q : ℕ) : Type 0 where
+pub record Same (y z : Closure) (q : ℕ) : Type 0 where
   pub todo : todo_of z q ≡ todo_of y q
   pub mark : marks_of z q ≡ marks_of y q
   pub set : contexts_of z q ≡ contexts_of y q
 
 -- it is there, with the tokens of add too, and has to be looked at unless that is nothing new
-pub record Took (add : List ℕ) (y z : Zeros) (q : ℕ) : Type 0 where
+pub record Took (add : List ℕ) (y z : Closure) (q : ℕ) : Type 0 where
   pub mark : marks_of z q ≡ true
   pub set : contexts_of z q ≡ join (contexts_of y q) add
   pub todo : (todo_of z q ≡ true) ⊎ ((todo_of z q ≡ todo_of y q) × (marks_of y q ≡ true) × (contexts_of z q ≡ contexts_of y q))
 
 -- it has to be looked at only if it had to be before, was not there, or has another context now
-abbrev pub Cause : Zeros → Zeros → ℕ → Type 0
+abbrev pub Cause : Closure → Closure → ℕ → Type 0
 Cause y z q = todo_of z q ≡ true → (todo_of y q ≡ true) ⊎ ((marks_of y q ≡ false) ⊎ (contexts_of z q ≡ contexts_of y q → ⊥))
 
+-- production p took the tokens of add
+pub record TookAt (p : ℕ) (add : List ℕ) (y z : Closure) : Type 0 where
+  pub size : Sized z
+  pub took : Took add y z p
+  pub left : (q : ℕ) → (q ≡ p → ⊥) → Same y z q
+  pub cause : Cause y z p
+
 -- each production of the rule that is below n took the tokens of add
-pub record Fed (b : List ℕ) (rule : ℕ) (add : List ℕ) (n : ℕ) (y z : Zeros) : Type 0 where
+pub record Fed (b : List ℕ) (rule : ℕ) (add : List ℕ) (n : ℕ) (y z : Closure) : Type 0 where
   pub size : Sized z
   pub took : (q : ℕ) → q < n → rule_of b q ≡ rule → Took add y z q
   pub left : (q : ℕ) → (q < n → rule_of b q ≡ rule → ⊥) → Same y z q
   pub cause : (q : ℕ) → Cause y z q
 
 -- each production that item i opens took what the item with the context s hands to it
-pub record HandedOn (b : List ℕ) (F : List Ahead) (i : ℕ) (s : List ℕ) (y z : Zeros) : Type 0 where
+pub record HandedOn (b : List ℕ) (F : List Ahead) (i : ℕ) (s : List ℕ) (y z : Closure) : Type 0 where
   pub size : Sized z
   pub took : (q : ℕ) (w : List ℕ) → Opens b i q w → Took (handed s (ahead_of F w)) y z q
   pub left : (q : ℕ) → ((w : List ℕ) → Opens b i q w → ⊥) → Same y z q
@@ -65,7 +71,7 @@ pub record Entered (b : List ℕ) (F : List Ahead) (here : ℕ → Bool) (ctx : 
 
 -- The first n rows of the kernel K are in, and nothing but its closure is. Each production that is there has to be looked at, has handed
 -- on what it has, or is h, the one in hand (prods b for none).
-pub record Working (b : List ℕ) (F : List Ahead) (K : List Row) (n h : ℕ) (z : Zeros) : Type 0 where
+pub record Working (b : List ℕ) (F : List Ahead) (K : List Row) (n h : ℕ) (z : Closure) : Type 0 where
   pub size : Sized z
   pub sound : (q : ℕ) → q < prods b → marks_of z q ≡ true → Closed (grammar_of b) (kernel_of K) q 0
   pub held : (q : ℕ) → q < prods b → (t : ℕ) → In (contexts_of z q) t → Holds (grammar_of b) (kernel_of K) q 0 t
@@ -75,18 +81,15 @@ pub record Working (b : List ℕ) (F : List Ahead) (K : List Row) (n h : ℕ) (z
       → (todo_of z p ≡ true) ⊎ (Done b F (marks_of z) (contexts_of z) (DOTS * p) (contexts_of z p) ⊎ (p ≡ h))
   pub rows : (k i : ℕ) (s : List ℕ) → k < n → get_or K k (row 0 []) ≡ row i s → Entered b F (marks_of z) (contexts_of z) i s
 
+-- all rows of the kernel K are in, and none is in hand
+abbrev pub Worked : List ℕ → List Row → Closure → Type 0
+Worked b K z = Working b (firsts_of b) K (length K) (prods b) z
+
 -- nothing is left to be looked at
-abbrev pub NoneLeft : List ℕ → Zeros → Type 0
+abbrev pub NoneLeft : List ℕ → Closure → Type 0
 NoneLeft b z = (q : ℕ) → q < prods b → todo_of z q ≡ false
 
--- ---- what the steps are lent
--- the rows of a kernel and the block's FIRST sets
-pub record ForSeed (b : List ℕ) (nullable : List Bool) (first ws : List ℕ) (K : List Row) : Type 0 where
+-- to seed a closure: the rows of a kernel, none of which is in
+pub record ForSeed (b ws : List ℕ) (K : List Row) (z : Closure) : Type 0 where
   pub kernel : RowsIn b ws K
-  pub firsts : Stored (firsts_of b) nullable first
-
--- a kernel all of whose rows are in, and the block's FIRST sets
-pub record ForSettle (b : List ℕ) (nullable : List Bool) (first : List ℕ) (K : List Row) (z : Zeros) : Type 0 where
-  pub good : Good b
-  pub firsts : Stored (firsts_of b) nullable first
-  pub work : Working b (firsts_of b) K (length K) (prods b) z
+  pub start : Working b (firsts_of b) K 0 (prods b) z

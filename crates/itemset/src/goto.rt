@@ -1,7 +1,8 @@
-// Rule 4: the symbols behind dots in order of first sight, and the goto kernel of each.
-ghost use Rattle.std.specs.Prelude.{List, ◌≡◌, ◌/◌};
+//! Rule 4: the symbols behind dots in order of first sight, and the goto kernel of each.
+
+ghost use Rattle.std.specs.Prelude.{List, ◌≡◌, ℕ, ◌<◌, ◌/◌};
 ghost use Rattle.block.specs.Limits.{DOTS};
-ghost use Rattle.block.specs.Refusal.{Known};
+ghost use Rattle.block.specs.Block.{prods};
 ghost use Rattle.itemset.specs.Rows.{Row};
 ghost use Rattle.itemset.specs.Close.{rest_of};
 ghost use Rattle.itemset.specs.Goto.{sights_of, goto_of};
@@ -10,93 +11,82 @@ ghost use Rattle.itemset.specs.Sights.{after_of, is_next, SightsAre};
 
 use crate::lay::put_row;
 use block::limits::{DOTS, ITEM, RULES, TOKENS};
-use block::{body_of, load};
+use block::{Grammar, TokenSet};
 
-// Most symbols.
+/// Most symbols.
 const SIGHTS: usize = RULES + TOKENS;
 
-// Above the number of every symbol.
+/// Above the number of every symbol.
 const NUMBERS: usize = 2 * SIGHTS;
 
-// The symbols sighted, in order, and zeros behind them.
+/// The symbols sighted, in order, and zeros behind them.
+// stays: no heap in this crate, so no Vec; `as_slice` has the symbols sighted alone.
 #[derive(Clone, Copy)]
 pub struct Sights {
     pub count: usize,
     pub symbols: [u32; SIGHTS],
 }
 
-// What is behind a dot.
-#[derive(Clone, Copy)]
-enum After {
-    Symbol(u32),
-    End,
-}
-
-fn symbol_after(block: &[u32], item: usize) -> After
-    requires { Known block.now (item / DOTS) }
-    ensures { result ≡ after_of (rest_of block.now item) }
-{
-    let body = body_of(block, item / DOTS);
-    let dot = item % DOTS;
-    if dot < body.len() {
-        After::Symbol(body[dot])
-    } else {
-        After::End
+impl Sights {
+    /// The symbols sighted, in order, without the zeros behind them.
+    pub fn as_slice(&self) -> &[u32]
+        requires { (xs : List ℕ) × SightsAre self.now xs }
+        ensures { (xs : List ℕ) → SightsAre self.now xs → result.now ≡ xs }
+    {
+        &self.symbols[..self.count]
     }
 }
 
-// Whether x is behind the item's dot.
-fn is_next(block: &[u32], item: usize, x: usize) -> bool
-    requires { Known block.now (item / DOTS) }
-    ensures { result ≡ is_next (rest_of block.now item) x }
+/// The symbol behind the item's dot, if one is there.
+fn symbol_after(grammar: Grammar<'_>, item: usize) -> Option<u32>
+    requires { item / DOTS < prods grammar.words.now }
+    ensures { result ≡ after_of (rest_of grammar.entry.words.now item) }
 {
-    match symbol_after(block, item) {
-        After::Symbol(y) => y as usize == x,
-        After::End => false,
-    }
+    grammar.body(item / DOTS).get(item % DOTS).copied()
 }
 
-pub fn sights_of(block: &[u32], closed: &[u64]) -> Sights
-    requires { (C : List Row) × RowsIn block.now closed.now C }
-    ensures { (C : List Row) → RowsIn block.now closed.now C → SightsAre result (sights_of block.now C) }
+/// Whether x is behind the item's dot.
+fn is_next(grammar: Grammar<'_>, item: usize, x: usize) -> bool
+    requires { item / DOTS < prods grammar.words.now }
+    ensures { result ≡ is_next (rest_of grammar.entry.words.now item) x }
 {
-    let n = closed.len() / ITEM;
+    symbol_after(grammar, item).is_some_and(|y| y as usize == x)
+}
+
+/// The symbols behind the dots of closed rows, each once, in order of first sight.
+pub fn sights_of(grammar: Grammar<'_>, closed: &[u64]) -> Sights
+    requires { (C : List Row) × RowsIn grammar.words.now closed.now C }
+    ensures { (C : List Row) → RowsIn grammar.entry.words.now closed.now C → SightsAre result (sights_of grammar.entry.words.now C) }
+{
     let mut seen = [false; NUMBERS];
     let mut symbols = [0; SIGHTS];
     let mut count = 0;
-    let mut i = 0;
-    while i < n {
-        match symbol_after(block, closed[ITEM * i] as usize) {
-            After::Symbol(x) => {
-                let k = x as usize;
-                if !seen[k] {
-                    seen[k] = true;
-                    symbols[count] = x;
-                    count += 1;
-                }
+    let (rows, _) = closed.as_chunks::<ITEM>();
+    for row in rows {
+        if let Some(x) = symbol_after(grammar, row[0] as usize) {
+            if !seen[x as usize] {
+                seen[x as usize] = true;
+                symbols[count] = x;
+                count += 1;
             }
-            After::End => {}
         }
-        i += 1;
     }
     Sights { count, symbols }
 }
 
-// The rows with x behind the dot, each with its dot moved. Answers how many.
-pub fn goto_kernel(block: &[u32], closed: &[u64], x: usize, out: &mut [u64]) -> usize
-    requires { (C : List Row) × ForGoto block.now closed.now out.old C }
-    ensures { (C : List Row) → ForGoto block.now closed.now out.old C → Wrote (goto_of block.now C x) result out.old out.new }
+/// The rows with x behind the dot, each with its dot moved. Answers how many.
+pub fn goto_kernel(grammar: Grammar<'_>, closed: &[u64], x: usize, out: &mut [u64]) -> usize
+    requires { (C : List Row) × ForGoto grammar.words.now closed.now out.old C }
+    ensures { (C : List Row) → ForGoto grammar.entry.words.now closed.now out.old C → Wrote (goto_of grammar.entry.words.now C x) result out.old out.new }
 {
-    let n = closed.len() / ITEM;
-    let mut k = 0;
+    let (closed_rows, _) = closed.as_chunks::<ITEM>();
     let mut rows = 0;
-    while k < n {
-        let item = closed[ITEM * k] as usize;
-        if is_next(block, item, x) {
-            put_row(out, rows, item + 1, load(closed, ITEM * k + 1));
+    for row in closed_rows {
+        let item = row[0] as usize;
+        if is_next(grammar, item, x) {
+            put_row(out, rows, item + 1, TokenSet::load(row, 1));
             rows += 1;
         }
-        k += 1;
     }
     rows
 }

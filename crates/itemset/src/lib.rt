@@ -1,11 +1,10 @@
-// Closure and goto of a kernel (itemset.rs).
+//! Closure and goto of a kernel.
 #![tactic(auto)]
 
 mod closure;
 mod goto;
 mod lay;
 mod rows;
-mod zeros;
 
 pub use closure::close;
 pub use goto::{Sights, goto_kernel, sights_of};

@@ -1,7 +1,4 @@
 pub mod Front
-pub mod Narrowing
 pub mod Expected
-pub mod Marks
-pub mod FirstParts
+pub mod AheadLaws
 pub mod FirstLine
-pub mod CheckedLaws

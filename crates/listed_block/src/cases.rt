@@ -1,104 +1,112 @@
-// The lists of blocks, right sides and FIRST sets.
-ghost use Rattle.std.specs.Prelude.{true, map, ◌↔◌, ◌≡◌, ◌≤◌, length, take};
-ghost use Rattle.block.specs.Limits.{RULES};
-ghost use Rattle.listed_block.specs.Cases.{BlockCase, BodyCase, FirstsCase, mark_of};
+//! The lists of blocks, right sides and FIRST sets.
+ghost use Rattle.std.specs.Prelude.{true, map, ◌↔◌, ◌≡◌};
+ghost use Rattle.block.specs.Refusal.{refusal_of};
+ghost use Rattle.listed_block.specs.Cases.{BlockCase, BodyCase, FirstsCase};
+ghost use Rattle.listed_block.specs.Aheads.{marks_of, words_of};
 
 use crate::rooms::BLOCK;
-use block::limits::{RULES, WORDS};
-use block::{Checked, body, body_refusal, check_block, firsts, number};
-use words::{begins, behind, index, narrow, part, same32};
+use block::{Firsts, Grammar, Lookahead, body, body_refusal};
+use words::{given, index, same, split_part};
 
-// [block] → number
+/// The number of the block's refusal, 0 for a good one.
+fn refusal(block: &[u32]) -> u64
+    ensures { result ≡ refusal_of block.now }
+{
+    match Grammar::check(block) {
+        Ok(_) => 0,
+        Err(refusal) => u64::from(refusal.number()),
+    }
+}
+
+/// [block] → number
 pub fn block_holds(words: &[u64]) -> bool
     ensures { (result ≡ true) ↔ BlockCase words.now }
 {
     let mut room = [0u32; BLOCK];
-    let given = part(words);
-    let n = narrow(given, &mut room);
-    let expected = behind(words);
-    if n != given.len() {
+    let Some((block, expected)) = given(words, &mut room) else {
         return false;
-    }
+    };
     if expected.len() != 1 {
         return false;
     }
-    expected[0] == number(check_block(&room[..n])) as u64
+    expected[0] == refusal(block)
 }
 
-// [block] production → number [body]
+/// [block] production → number [body]
 pub fn body_holds(words: &[u64]) -> bool
     ensures { (result ≡ true) ↔ BodyCase words.now }
 {
     let mut room = [0u32; BLOCK];
-    let given = part(words);
-    let n = narrow(given, &mut room);
-    let rest = behind(words);
-    if n != given.len() {
+    let Some((block, rest)) = given(words, &mut room) else {
         return false;
-    }
+    };
     if rest.len() < 3 {
         return false;
     }
     let p = index(rest[0]);
-    let block = &room[..n];
     let right = body(block, p);
-    if rest[1] != body_refusal(block, p) as u64 {
+    if rest[1] != u64::from(body_refusal(block, p)) {
         return false;
     }
     if rest[2] != right.len() as u64 {
         return false;
     }
-    same32(&rest[3..], right)
+    same(&rest[3..], right)
 }
 
-// Whether the marks are those of the first rules.
-fn marks_hold(marks: &[u64], nullable: &[bool; RULES]) -> bool
-    ensures { (result ≡ true) ↔ ((length marks.now ≤ RULES) × (marks.now ≡ map mark_of (take (length marks.now) nullable.now))) }
+/// Whether the marks are those of the rules.
+fn marks_hold(marks: &[u64], aheads: &[Lookahead]) -> bool
+    ensures { (result ≡ true) ↔ (marks.now ≡ marks_of aheads.now) }
 {
-    if RULES < marks.len() {
+    if marks.len() != aheads.len() {
         return false;
     }
-    // A slice tells its length, a reference to an array does not.
-    let nulls: &[bool] = nullable;
-    let mut i = 0;
-    while i < marks.len() {
-        if marks[i] != nulls[i] as u64 {
+    for (i, ahead) in aheads.iter().enumerate() {
+        if marks[i] != u64::from(ahead.null) {
             return false;
         }
-        i += 1;
     }
     true
 }
 
-// [good block] → [nullable marks] [FIRST words]
+/// Whether the words are those of the rules' sets, one behind the other.
+fn sets_hold(words: &[u64], aheads: &[Lookahead]) -> bool
+    ensures { (result ≡ true) ↔ (words.now ≡ words_of aheads.now) }
+{
+    let mut rest = words;
+    for ahead in aheads {
+        let Some(next) = rest.strip_prefix(&ahead.set.words) else {
+            return false;
+        };
+        rest = next;
+    }
+    rest.is_empty()
+}
+
+/// [good block] → [nullable marks] [FIRST words]
 pub fn firsts_hold(words: &[u64]) -> bool
     ensures { (result ≡ true) ↔ FirstsCase words.now }
 {
     let mut room = [0u32; BLOCK];
-    let given = part(words);
-    let n = narrow(given, &mut room);
-    if n != given.len() {
-        return false;
-    }
-    let block = &room[..n];
-    let Checked::Good(sizes) = check_block(block) else {
+    let Some((block, expected)) = given(words, &mut room) else {
         return false;
     };
-    let sets = firsts(block);
-    let expected = behind(words);
-    let marks = part(expected);
-    let rest = behind(expected);
-    if marks.len() != sizes.rules {
+    let Ok(grammar) = Grammar::check(block) else {
+        return false;
+    };
+    let Some((marks, rest)) = split_part(expected) else {
+        return false;
+    };
+    let Some((sets, behind)) = split_part(rest) else {
+        return false;
+    };
+    let Firsts { grammar, rules } = Firsts::new(grammar);
+    let aheads = &rules[..grammar.rules()];
+    if !marks_hold(marks, aheads) {
         return false;
     }
-    let nullable = sets.nullable;
-    if !marks_hold(marks, &nullable) {
+    if !sets_hold(sets, aheads) {
         return false;
     }
-    let all = sets.first;
-    let first: &[u64] = &all;
-    if !begins(rest, &first[..WORDS * sizes.rules]) {
-        return false;
-    }
-    behind(rest).len() == 0
+    behind.is_empty()
 }

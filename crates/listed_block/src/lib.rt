@@ -1,5 +1,5 @@
-// The listed cases of the crate `block`: each function answers whether a line holds, that is, whether the library answers
-// what the line expects. The lists and their form are the oracle's (oracle/lists/FORMAT.md).
+//! The listed cases of the crate `block`: each function answers whether a line holds, that is, whether the library answers
+//! what the line expects. The lists and their form are the oracle's (oracle/lists/FORMAT.md).
 #![tactic(auto)]
 
 mod cases;

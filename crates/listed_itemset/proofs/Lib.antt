@@ -1,4 +1,3 @@
 pub mod Wrote
-pub mod Parts
 pub mod Kernels
 pub mod KernelLaws

@@ -1,25 +1,18 @@
--- Rows that were written to the front of a room: how far they reach, and that the part in front is theirs; and the room of
--- symbols. Assumes nothing.
-use mathlib.Core.Bool.{Bool}
+-- Rows that were written to the front of a room: how far they reach, and that the part in front is theirs. Assumes nothing.
 use mathlib.Core.List.{List}
 use mathlib.Core.Path.{◌≡◌, sym, ap, ◌∙◌}
-use Prim.Native.Nat.{ℕ, ◌-◌, ◌*◌, ◌<◌, ◌≤◌}
+use Prim.Native.Nat.{ℕ, ◌*◌, ◌≤◌}
 use native.Mathlib.Omega.{arith}
-use lib.ListN.{length, get_or, take, drop, replicate, length-append, get_or-append}
+use lib.ListN.{length, take, drop, length-append}
 use lib.Seq.{take_at}
 use Rattle.block.specs.Limits.{ITEM}
 use Rattle.block.specs.First.{firsts_of}
 use Rattle.itemset.specs.Rows.{Row, words_of, Sets, Rows}
 use Rattle.itemset.specs.Close.{close_of}
 use Rattle.itemset.specs.Lent.{RowsIn, ForClosure, Wrote, over}
-use Rattle.itemset.specs.Goto.{sights_of}
-use Rattle.itemset.specs.Sights.{SIGHTS, SightsAre}
-use Rattle.itemset.specs.declared.goto.Sights.{Sights}
-use Rattle.block.proofs.Good.{placed}
 use Rattle.itemset.proofs.Words.{words-length}
 use Rattle.itemset.proofs.GoodReady.{good-ready}
 use Rattle.itemset.proofs.Fuel.{close-rows}
-use Rattle.itemset.proofs.Rule4.{all-sights}
 
 module _ {rs : List Row} {n : ℕ} {out after : List ℕ} (h : Sets rs) (W : Wrote rs n out after) where
   wrote-length : length (words_of rs) ≡ ITEM * n
@@ -40,7 +33,7 @@ module _ {rs : List Row} {n : ℕ} {out after : List ℕ} (h : Sets rs) (W : Wro
       omega (arith, wrote-length, length-append (words_of rs) (drop (length (words_of rs)) out))
 
 -- the closed rows of a kernel
-module _ {b : List ℕ} {nullable : List Bool} {first ws out : List ℕ} {K : List Row} (G : ForClosure b nullable first ws out K) where
+module _ {b ws out : List ℕ} {K : List Row} (G : ForClosure b ws out K) where
   closed : Rows b (close_of b (firsts_of b) K)
   closed = close-rows b (firsts_of b) (good-ready G.kernel.good) K G.kernel.rows
 
@@ -50,17 +43,3 @@ module _ {b : List ℕ} {nullable : List Bool} {first ws out : List ℕ} {K : Li
   pub closed_in : {n : ℕ} {after : List ℕ} → Wrote (close_of b (firsts_of b) K) n out after
       → RowsIn b (take (ITEM * n) after) (close_of b (firsts_of b) K)
   closed_in W = record { good = G.kernel.good; rows = closed; words = wrote-part closed-sets W }
-
--- the symbols sighted have their places
-pub sights-fit : {b ws : List ℕ} {C : List Row} {r : Sights} → RowsIn b ws C → SightsAre r (sights_of b C) → r.count ≤ SIGHTS
-sights-fit {b} {ws} {C} R S =
-    let p = placed R.good in
-    let f = (all-sights b (firsts_of b) (good-ready R.good) C R.rows).few in
-    let k = S.count in
-    omega (arith, p.rules-most, p.tokens-most)
-
--- and stand in them
-pub sights-at : {r : Sights} (xs : List ℕ) → SightsAre r xs → (i : ℕ) → i < r.count → (i < length xs) × (get_or xs i 0 ≡ get_or r.symbols i 0)
-sights-at {r} xs S i l =
-    let h : i < length xs = omega (arith, S.count, l) in
-    (h, sym (ap (λ v. get_or v i 0) S.symbols ∙ get_or-append xs (replicate (SIGHTS - length xs) 0) 0 i h))

@@ -1,4 +1,4 @@
-// The listed cases of the crate `itemset`: closures and gotos.
+//! The listed cases of the crate `itemset`: closures and gotos.
 #![tactic(auto)]
 
 mod cases;

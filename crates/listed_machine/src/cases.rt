@@ -1,17 +1,17 @@
-// The list of runs.
+//! The list of runs.
 ghost use Rattle.std.specs.Prelude.{true, ◌++◌, ◌↔◌, ◌≡◌, length};
 ghost use Rattle.words.specs.Given.{as_part};
-ghost use Rattle.machine.specs.Call.{answer_of, called};
+ghost use Rattle.machine.specs.Call.{answer_of, ended_of, called};
 ghost use Rattle.listed_machine.specs.Cases.{numbers_at, numbers, run_words, LentCase, InputCase, TablesCase, RunCase};
 
 use listed_block::rooms::{BLOCK, ROOM, bounded};
-use machine::{Ran, Run, run};
-use words::{begins32, behind, index, narrow, numbers_begin, part};
+use machine::{Ended, How, Run, RunRefusal, run};
+use words::{begins, behind, given, index, numbers_begin};
 
-// Numbers of an answer.
+/// Numbers of an answer.
 const NUMBERS: usize = 5;
 
-// number place k steps height, of a run that stands so. Their count is told since lending the array needs it.
+/// number place k steps height, of a run that stands so. Their count is told since lending the array needs it.
 fn numbers_at(number: u64, place: usize, run: Run) -> [u64; NUMBERS]
     ensures numbers { result ≡ numbers_at number place run }
     ensures count { 5 ≡ length result }
@@ -25,22 +25,38 @@ fn numbers_at(number: u64, place: usize, run: Run) -> [u64; NUMBERS]
     ]
 }
 
-// number place k steps height
-fn numbers_of(ran: Ran) -> [u64; NUMBERS]
+/// number place k steps height, of a run that began
+fn ended_numbers(ended: Ended) -> [u64; NUMBERS]
+    ensures numbers { result ≡ numbers (ended_of ended) }
+    ensures count { 5 ≡ length result }
+{
+    match ended.how {
+        How::Accept => numbers_at(0, 0, ended.run),
+        How::Reject => numbers_at(100, ended.run.at, ended.run),
+        How::Stopped(stop) => numbers_at(stop.number() as u64, 0, ended.run),
+    }
+}
+
+/// number place k steps height
+fn numbers_of(ran: Result<Ended, RunRefusal>) -> [u64; NUMBERS]
     ensures numbers { result ≡ numbers (answer_of ran) }
     ensures count { 5 ≡ length result }
 {
     match ran {
-        Ran::Accept(run) => numbers_at(0, 0, run),
-        Ran::Reject(run) => numbers_at(100, run.at, run),
-        Ran::Stopped(n, run) => numbers_at(n as u64, 0, run),
-        Ran::Refused(n) => [n as u64, 0, 0, 0, 0],
-        Ran::BadToken(place) => [13, place as u64, 0, 0, 0],
+        Ok(ended) => ended_numbers(ended),
+        Err(RunRefusal::Block(refusal)) => [refusal.number() as u64, 0, 0, 0, 0],
+        Err(RunRefusal::RoomShort) => [7, 0, 0, 0, 0],
+        Err(RunRefusal::BadToken { place }) => [13, place as u64, 0, 0, 0],
     }
 }
 
-// number place k steps height [stack] [output]
-fn ran_holds(expected: &[u64], ran: Ran, stack: &[u32], output: &[u32]) -> bool
+/// number place k steps height [stack] [output]
+fn ran_holds(
+    expected: &[u64],
+    ran: Result<Ended, RunRefusal>,
+    stack: &[u32],
+    output: &[u32],
+) -> bool
     ensures { (result ≡ true) ↔ (expected.now ≡ numbers (answer_of ran) ++ (as_part stack.now ++ as_part output.now)) }
 {
     let numbers = numbers_of(ran);
@@ -51,17 +67,18 @@ fn ran_holds(expected: &[u64], ran: Ran, stack: &[u32], output: &[u32]) -> bool
         return false;
     }
     let buffers = &expected[NUMBERS..];
-    if !begins32(buffers, stack) {
+    if !begins(buffers, stack) {
         return false;
     }
     let last = behind(buffers);
-    if !begins32(last, output) {
+    if !begins(last, output) {
         return false;
     }
-    behind(last).len() == 0
+    behind(last).is_empty()
 }
 
-// The call, and what is expected of it.
+/// The call, and what is expected of it.
+// stays: the parameters are those of `run`, which takes any words (what may not change).
 fn call_holds(
     block: &[u32],
     states: usize,
@@ -79,7 +96,7 @@ fn call_holds(
     ran_holds(expected, ran, stack, output)
 }
 
-// step-limit fill stack-length output-length  → number place k steps height [stack] [output]
+/// step-limit fill stack-length output-length  → number place k steps height [stack] [output]
 fn lent_holds(
     block: &[u32],
     states: usize,
@@ -112,60 +129,43 @@ fn lent_holds(
     )
 }
 
-// [gotos] [input] step-limit ..
+/// [gotos] [input] step-limit ..
 fn input_holds(block: &[u32], states: usize, actions: &[u32], rest: &[u64]) -> bool
     ensures { (result ≡ true) ↔ InputCase block.now states actions.now rest.now }
 {
-    let mut gotos = [0u32; BLOCK];
-    let mut input = [0u32; BLOCK];
-    let first = part(rest);
-    let next = behind(rest);
-    let second = part(next);
-    let g = narrow(first, &mut gotos);
-    let i = narrow(second, &mut input);
-    if g != first.len() {
+    let mut goto_room = [0u32; BLOCK];
+    let mut input_room = [0u32; BLOCK];
+    let Some((gotos, next)) = given(rest, &mut goto_room) else {
         return false;
-    }
-    if i != second.len() {
+    };
+    let Some((input, last)) = given(next, &mut input_room) else {
         return false;
-    }
-    lent_holds(
-        block,
-        states,
-        actions,
-        &gotos[..g],
-        &input[..i],
-        behind(next),
-    )
+    };
+    lent_holds(block, states, actions, gotos, input, last)
 }
 
-// states [actions] [gotos] [input] step-limit ..
+/// states [actions] [gotos] [input] step-limit ..
 fn tables_hold(block: &[u32], rest: &[u64]) -> bool
     ensures { (result ≡ true) ↔ TablesCase block.now rest.now }
 {
-    if rest.len() == 0 {
+    let Some((states, tables)) = rest.split_first() else {
         return false;
-    }
-    let mut actions = [0u32; BLOCK];
-    let tables = &rest[1..];
-    let given = part(tables);
-    let n = narrow(given, &mut actions);
-    if n != given.len() {
+    };
+    let mut room = [0u32; BLOCK];
+    let Some((actions, last)) = given(tables, &mut room) else {
         return false;
-    }
-    input_holds(block, index(rest[0]), &actions[..n], behind(tables))
+    };
+    input_holds(block, index(*states), actions, last)
 }
 
-// [block] states [actions] [gotos] [input] step-limit fill stack-length output-length
-//   → number place k steps height [stack] [output]
+/// [block] states [actions] [gotos] [input] step-limit fill stack-length output-length
+///   → number place k steps height [stack] [output]
 pub fn run_holds(words: &[u64]) -> bool
     ensures { (result ≡ true) ↔ RunCase words.now }
 {
     let mut room = [0u32; BLOCK];
-    let block = part(words);
-    let n = narrow(block, &mut room);
-    if n != block.len() {
+    let Some((block, rest)) = given(words, &mut room) else {
         return false;
-    }
-    tables_hold(&room[..n], behind(words))
+    };
+    tables_hold(block, rest)
 }

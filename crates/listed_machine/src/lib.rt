@@ -1,4 +1,4 @@
-// The listed cases of the crate `machine`: runs.
+//! The listed cases of the crate `machine`: runs.
 #![tactic(auto)]
 
 mod cases;

@@ -1,4 +1,4 @@
-// The list of graphs.
+//! The list of graphs.
 ghost use Rattle.std.specs.Prelude.{true, [], ◌++◌, ◌↔◌, ◌≡◌, length};
 ghost use Rattle.words.specs.Given.{as_part};
 ghost use Rattle.words.specs.Parts.{behind_of};
@@ -8,19 +8,19 @@ ghost use Rattle.listed_pager.specs.Cases.{numbers, GraphSeen, LentCase, GraphCa
 
 use crate::work::{lent, work_holds, work_of};
 use listed_block::rooms::{BLOCK, ROOM, bounded};
-use pager::{Graphed, graph};
-use words::{begins, begins32, behind, behind_three, index, narrow, numbers_begin, part};
+use pager::{GraphRefusal, Kept, graph};
+use words::{begins, behind, behind_three, given, index, numbers_begin};
 
-// What a case gives besides the block.
-#[derive(Clone, Copy)]
+/// What a case gives besides the block.
+#[derive(Clone, Copy, Debug, PartialEq, Eq)]
 struct Asked {
-    // S states, I kernel items at most, and the fill.
+    /// S states, I kernel items at most, and the fill.
     states: usize,
     most: usize,
     fill: u32,
 }
 
-// [items] [spans] [edges]
+/// [items] [spans] [edges]
 pub fn graph_begins(expected: &[u64], items: &[u64], spans: &[u32], edges: &[u32]) -> bool
     ensures { (result ≡ true) ↔ (expected.now ≡ as_part items.now ++ (as_part spans.now ++ (as_part edges.now ++ behind_of (behind_of (behind_of expected.now))))) }
 {
@@ -28,13 +28,13 @@ pub fn graph_begins(expected: &[u64], items: &[u64], spans: &[u32], edges: &[u32
         return false;
     }
     let next = behind(expected);
-    if !begins32(next, spans) {
+    if !begins(next, spans) {
         return false;
     }
-    begins32(behind(next), edges)
+    begins(behind(next), edges)
 }
 
-// [items] [spans] [edges], and nothing behind them
+/// [items] [spans] [edges], and nothing behind them
 fn buffers_hold(expected: &[u64], items: &[u64], spans: &[u32], edges: &[u32]) -> bool
     ensures { (result ≡ true) ↔ (expected.now ≡ as_part items.now ++ (as_part spans.now ++ (as_part edges.now ++ []))) }
 {
@@ -44,18 +44,19 @@ fn buffers_hold(expected: &[u64], items: &[u64], spans: &[u32], edges: &[u32]) -
     behind_three(expected).len() == 0
 }
 
-// number  states items before. Their count is told since lending the array needs it.
-fn numbers_of(answer: Graphed) -> [u64; 4]
+/// number  states items before. Their count is told since lending the array needs it.
+fn numbers_of(answer: Result<Kept, GraphRefusal>) -> [u64; 4]
     ensures numbers { result ≡ numbers (answer_of answer) }
     ensures count { 4 ≡ length result }
 {
     match answer {
-        Graphed::Built(kept) => [0, kept.states as u64, kept.items as u64, kept.before as u64],
-        Graphed::Refused(n) => [n as u64, 0, 0, 0],
+        Ok(kept) => [0, kept.states as u64, kept.items as u64, kept.before as u64],
+        Err(refusal) => [u64::from(refusal.number()), 0, 0, 0],
     }
 }
 
-// number  states items before  [items] [spans] [edges]
+/// number  states items before  [items] [spans] [edges]
+// stays: the parameters are those of `graph`, whose buffers the C interface lends one by one.
 fn call_holds(
     block: &[u32],
     given: Asked,
@@ -96,7 +97,7 @@ fn call_holds(
     work_holds(expected[0], work, given.fill, marks, closed, kernel)
 }
 
-// lengths: items spans edges  → number ..
+/// lengths: items spans edges  → number ..
 fn lent_holds(block: &[u32], given: Asked, rest: &[u64]) -> bool
     ensures { (result ≡ true) ↔ LentCase block.now (call.named given.states given.most) given.fill rest.now }
 {
@@ -128,28 +129,24 @@ fn lent_holds(block: &[u32], given: Asked, rest: &[u64]) -> bool
     )
 }
 
-// [block] S I fill  lengths: items spans edges  → number  states items before  [items] [spans] [edges]
+/// [block] S I fill  lengths: items spans edges  → number  states items before  [items] [spans] [edges]
 pub fn graph_holds(words: &[u64]) -> bool
     ensures { (result ≡ true) ↔ GraphCase words.now }
 {
     let mut room = [0u32; BLOCK];
-    let block = part(words);
-    let n = narrow(block, &mut room);
-    if n != block.len() {
+    let Some((block, rest)) = given(words, &mut room) else {
         return false;
-    }
-    let rest = behind(words);
+    };
     if rest.len() < 3 {
         return false;
     }
-    let fill = rest[2];
-    if 4294967295 < fill {
+    let Ok(fill) = u32::try_from(rest[2]) else {
         return false;
-    }
+    };
     let given = Asked {
         states: index(rest[0]),
         most: index(rest[1]),
-        fill: fill as u32,
+        fill,
     };
-    lent_holds(&room[..n], given, &rest[3..])
+    lent_holds(block, given, &rest[3..])
 }

@@ -1,4 +1,4 @@
-// The listed cases of the crate `pager`: graphs.
+//! The listed cases of the crate `pager`: graphs.
 #![tactic(auto)]
 
 mod cases;

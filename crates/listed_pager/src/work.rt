@@ -1,24 +1,25 @@
-// The work room of a graph: what is lent, and what is left in it.
-ghost use Rattle.std.specs.Prelude.{true, ◌↔◌, ◌≡◌, ◌≤◌};
+//! The work room of a graph: what is lent, and what is left in it.
+ghost use Rattle.std.specs.Prelude.{true, replicate, length, ◌↔◌, ◌≡◌, ◌≤◌};
 ghost use Rattle.listed_block.specs.Rooms.{ROOM};
 ghost use Rattle.listed_pager.specs.Work.{lent_of, work_of, zeros_of, Cleared, WorkLeft};
 
+use block::Grammar;
 use block::limits::ITEM;
-use block::{Checked, check_block};
 use listed_block::rooms::bounded;
+use words::Word;
 
-// Words lent beyond what is needed, to see that they stay as they were.
+/// Words lent beyond what is needed, to see that they stay as they were.
 const MORE: usize = 7;
 
-// Words of the work room that a graph needs, and clears.
-#[derive(Clone, Copy)]
+/// Words of the work room that a graph needs, and clears.
+#[derive(Clone, Copy, Debug, PartialEq, Eq)]
 pub struct Work {
     pub marks: usize,
     pub closed: usize,
     pub kernel: usize,
 }
 
-// The words lent where so many are needed.
+/// The words lent where so many are needed.
 pub fn lent(needed: usize) -> usize
     ensures lent { result ≡ lent_of needed }
     ensures most { result ≤ ROOM }
@@ -26,21 +27,20 @@ pub fn lent(needed: usize) -> usize
     bounded(bounded(needed) + MORE)
 }
 
-// The words that a graph of so many states needs; a bad block needs no rows.
+/// The words that a graph of so many states needs; a bad block needs no rows.
 pub fn work_of(block: &[u32], states: usize) -> Work
     ensures { result ≡ work_of block.now states }
 {
     let marks = 2 * bounded(states);
-    let Checked::Good(sizes) = check_block(block) else {
+    let Ok(grammar) = Grammar::check(block) else {
         return Work {
             marks,
             closed: 0,
             kernel: 0,
         };
     };
-    // A good block has fewer of both than the bound, which is there for the sums.
-    let symbols = bounded(sizes.symbols);
-    let prods = bounded(sizes.prods);
+    let symbols = grammar.symbols();
+    let prods = grammar.productions();
     Work {
         marks,
         closed: ITEM * (symbols + prods),
@@ -48,49 +48,40 @@ pub fn work_of(block: &[u32], states: usize) -> Work
     }
 }
 
-// Whether the first words are zero, so many, and those behind them the fill.
-fn cleared(room: &[u64], zeros: usize, fill: u64) -> bool
-    ensures { (result ≡ true) ↔ Cleared zeros fill room.now }
+/// Whether every word is this one.
+fn full<T: Word>(words: &[T], all: u64) -> bool
+    ensures { (result ≡ true) ↔ (T.numbers words.now ≡ replicate (length words.now) all) }
 {
-    let mut i = 0;
-    while i < room.len() {
-        let expected = if i < zeros { 0 } else { fill };
-        if room[i] != expected {
+    for word in words {
+        if word.wide() != all {
             return false;
         }
-        i += 1;
     }
     true
 }
 
-fn cleared32(room: &[u32], zeros: usize, fill: u32) -> bool
-    ensures { (result ≡ true) ↔ Cleared zeros fill room.now }
+/// Whether the first words are zero, so many, and those behind them the fill.
+fn cleared<T: Word>(room: &[T], zeros: usize, fill: u64) -> bool
+    ensures { (result ≡ true) ↔ Cleared zeros fill (T.numbers room.now) }
 {
-    let mut i = 0;
-    while i < room.len() {
-        let expected = if i < zeros { 0 } else { fill };
-        if room[i] != expected {
-            return false;
-        }
-        i += 1;
+    let (front, behind) = room.split_at(zeros.min(room.len()));
+    if !full(front, 0) {
+        return false;
     }
-    true
+    full(behind, fill)
 }
 
-// The words that the answer of that number leaves zero: 1 to 7 leave all as it was.
+/// The words that the answer of that number leaves zero: 1 to 7 leave all as it was.
 fn zeros(number: u64, needed: usize) -> usize
     ensures { result ≡ zeros_of number needed }
 {
-    if number == 0 {
-        return needed;
+    match number {
+        1..=7 => 0,
+        _ => needed,
     }
-    if 7 < number {
-        return needed;
-    }
-    0
 }
 
-// Whether the work room was left as the answer of that number leaves it.
+/// Whether the work room was left as the answer of that number leaves it.
 pub fn work_holds(
     number: u64,
     work: Work,
@@ -101,11 +92,12 @@ pub fn work_holds(
 ) -> bool
     ensures { (result ≡ true) ↔ WorkLeft number work fill marks.now closed.now kernel.now }
 {
-    if !cleared32(marks, zeros(number, work.marks), fill) {
+    let fill = u64::from(fill);
+    if !cleared(marks, zeros(number, work.marks), fill) {
         return false;
     }
-    if !cleared(closed, zeros(number, work.closed), fill as u64) {
+    if !cleared(closed, zeros(number, work.closed), fill) {
         return false;
     }
-    cleared(kernel, zeros(number, work.kernel), fill as u64)
+    cleared(kernel, zeros(number, work.kernel), fill)
 }

@@ -6,44 +6,46 @@ use mathlib.Core.Path.{◌≡◌, refl, sym, ap, ◌∙◌}
 use Prim.Native.Nat.{ℕ, zero, suc, ◌/◌, ◌%◌, ◌<◌}
 use native.Mathlib.Omega.{arith}
 use lib.ListN.{get_or, take}
+use Rattle.std.specs.Prelude.{Result, Ok, Err}
 use Rattle.pager.specs.Lists.{Answer, is, refused}
 use Rattle.statetable.specs.Cell.{of_kind, decode}
-use Rattle.statetable.specs.Queries.{acted_of, decoded}
-use Rattle.statetable.specs.declared.queries.Acts.{Acts}
-use Rattle.statetable.specs.declared.queries.Acts.TheVariants.{Error, Shift, Reduce, Accept, Refused}
+use Rattle.statetable.specs.Queries.{number_of, acted_of, decoded}
+use Rattle.statetable.specs.declared.cell.Action.{Action}
+use Rattle.statetable.specs.declared.cell.Action.TheVariants.{Error, Shift, Reduce, Accept}
+use Rattle.statetable.specs.declared.queries.QueryRefusal.{QueryRefusal}
 use Rattle.listed_statetable.specs.Queries.{found_words, ActsTold}
 use Rattle.listed_statetable.proofs.Pairs.{three}
 
 -- the number, the low two bits and the others, where such an action was read
-abbrev seen_by : Acts → (number low high : ℕ) → List ℕ
-seen_by Error n k v = 0 ∷ 0 ∷ v ∷ []
-seen_by (Shift u) n k v = 0 ∷ 1 ∷ u ∷ []
-seen_by (Reduce p) n k v = 0 ∷ 2 ∷ p ∷ []
-seen_by Accept n k v = 0 ∷ 3 ∷ v ∷ []
-seen_by (Refused m) n k v = n ∷ k ∷ v ∷ []
+abbrev seen_by : Result Action QueryRefusal → (number low high : ℕ) → List ℕ
+seen_by (Ok Error) n k v = 0 ∷ 0 ∷ v ∷ []
+seen_by (Ok (Shift u)) n k v = 0 ∷ 1 ∷ u ∷ []
+seen_by (Ok (Reduce p)) n k v = 0 ∷ 2 ∷ p ∷ []
+seen_by (Ok Accept) n k v = 0 ∷ 3 ∷ v ∷ []
+seen_by (Err e) n k v = n ∷ k ∷ v ∷ []
 
-told : (x : Acts) (n k v : ℕ) → n ≡ 0 → k < 4 → acted_of x ≡ is (of_kind k v) → n ∷ k ∷ v ∷ [] ≡ seen_by x n k v
-told Error n zero v z l e = cc
-told Error n (suc zero) v z l e = cc
-told Error n (suc (suc zero)) v z l e = cc
-told Error n (suc (suc (suc k))) v z l e = cc
-told (Shift u) n zero v z l e = cc
-told (Shift u) n (suc zero) v z l e = cc
-told (Shift u) n (suc (suc zero)) v z l e = cc
-told (Shift u) n (suc (suc (suc k))) v z l e = cc
-told (Reduce p) n zero v z l e = cc
-told (Reduce p) n (suc zero) v z l e = cc
-told (Reduce p) n (suc (suc zero)) v z l e = cc
-told (Reduce p) n (suc (suc (suc k))) v z l e = cc
-told Accept n zero v z l e = cc
-told Accept n (suc zero) v z l e = cc
-told Accept n (suc (suc zero)) v z l e = cc
-told Accept n (suc (suc (suc k))) v z l e = let y : k ≡ 0 = omega arith in cc
-told (Refused m) n k v z l e = cc
+told : (x : Result Action QueryRefusal) (n k v : ℕ) → n ≡ 0 → k < 4 → acted_of x ≡ is (of_kind k v) → n ∷ k ∷ v ∷ [] ≡ seen_by x n k v
+told (Ok Error) n zero v z l e = cc
+told (Ok Error) n (suc zero) v z l e = cc
+told (Ok Error) n (suc (suc zero)) v z l e = cc
+told (Ok Error) n (suc (suc (suc k))) v z l e = cc
+told (Ok (Shift u)) n zero v z l e = cc
+told (Ok (Shift u)) n (suc zero) v z l e = cc
+told (Ok (Shift u)) n (suc (suc zero)) v z l e = cc
+told (Ok (Shift u)) n (suc (suc (suc k))) v z l e = cc
+told (Ok (Reduce p)) n zero v z l e = cc
+told (Ok (Reduce p)) n (suc zero) v z l e = cc
+told (Ok (Reduce p)) n (suc (suc zero)) v z l e = cc
+told (Ok (Reduce p)) n (suc (suc (suc k))) v z l e = cc
+told (Ok Accept) n zero v z l e = cc
+told (Ok Accept) n (suc zero) v z l e = cc
+told (Ok Accept) n (suc (suc zero)) v z l e = cc
+told (Ok Accept) n (suc (suc (suc k))) v z l e = let y : k ≡ 0 = omega arith in cc
+told (Err r) n k v z l e = cc
 
 module _ (number word : ℕ) where
   -- the action of that kind, with the high bits as its value
-  read_as : (x : Acts) (k : ℕ) → number ≡ 0 → word % 4 ≡ k → acted_of x ≡ is (of_kind k (word / 4)) → ActsTold x number word
+  read_as : (x : Result Action QueryRefusal) (k : ℕ) → number ≡ 0 → word % 4 ≡ k → acted_of x ≡ is (of_kind k (word / 4)) → ActsTold x number word
   unfolding decode
   read_as x k z e d = record {
     answer = is word;
@@ -51,55 +53,55 @@ module _ (number word : ℕ) where
     action = d ∙ ap (λ j. is (of_kind j (word / 4))) (sym e);
   }
 
-  seen : (x : Acts) → ActsTold x number word → number ∷ word % 4 ∷ word / 4 ∷ [] ≡ seen_by x number (word % 4) (word / 4)
+  seen : (x : Result Action QueryRefusal) → ActsTold x number word → number ∷ word % 4 ∷ word / 4 ∷ [] ≡ seen_by x number (word % 4) (word / 4)
   unfolding decode
   seen x t = go x t.answer t.action t.words
     where
-      go : (x : Acts) (a : Answer ℕ) → acted_of x ≡ decoded a → number ∷ word ∷ [] ≡ found_words a
+      go : (x : Result Action QueryRefusal) (a : Answer ℕ) → acted_of x ≡ decoded a → number ∷ word ∷ [] ≡ found_words a
           → number ∷ word % 4 ∷ word / 4 ∷ [] ≡ seen_by x number (word % 4) (word / 4)
       go x (is w) d e =
           let g : word ≡ w = ap (λ l. get_or l 1 0) e in
           rw g (told x number (w % 4) (w / 4) (ap (λ l. get_or l 0 0) e) (omega arith) d)
-      go Error (refused why) d e = cc
-      go (Shift u) (refused why) d e = cc
-      go (Reduce p) (refused why) d e = cc
-      go Accept (refused why) d e = cc
-      go (Refused n) (refused why) d e = cc
+      go (Ok Error) (refused why) d e = cc
+      go (Ok (Shift u)) (refused why) d e = cc
+      go (Ok (Reduce p)) (refused why) d e = cc
+      go (Ok Accept) (refused why) d e = cc
+      go (Err r) (refused why) d e = cc
 
-  refusal : (n : ℕ) → ActsTold (Refused n) number word → number ∷ word ∷ [] ≡ n ∷ 0 ∷ []
-  refusal n t = go t.answer t.action t.words
+  refusal : (e : QueryRefusal) → ActsTold (Err e) number word → number ∷ word ∷ [] ≡ number_of e ∷ 0 ∷ []
+  refusal e t = go t.answer t.action t.words
     where
-      go : (a : Answer ℕ) → acted_of (Refused n) ≡ decoded a → number ∷ word ∷ [] ≡ found_words a → number ∷ word ∷ [] ≡ n ∷ 0 ∷ []
+      go : (a : Answer ℕ) → acted_of (Err e) ≡ decoded a → number ∷ word ∷ [] ≡ found_words a → number ∷ word ∷ [] ≡ number_of e ∷ 0 ∷ []
       go (is w) d e = cc
       go (refused why) d e = cc
 
   module _ {r : Bool} where
-    pub told-error : (r ≡ true) ↔ (number ∷ word % 4 ∷ [] ≡ 0 ∷ 0 ∷ []) → (r ≡ true) ↔ ActsTold Error number word
+    pub told-error : (r ≡ true) ↔ (number ∷ word % 4 ∷ [] ≡ 0 ∷ 0 ∷ []) → (r ≡ true) ↔ ActsTold (Ok Error) number word
     told-error f = (
-      λ t. read_as Error 0 (ap (λ l. get_or l 0 0) (f.0 t)) (ap (λ l. get_or l 1 0) (f.0 t)) refl,
-      λ a. f.1 (ap (take 2) (seen Error a)),
+      λ t. read_as (Ok Error) 0 (ap (λ l. get_or l 0 0) (f.0 t)) (ap (λ l. get_or l 1 0) (f.0 t)) refl,
+      λ a. f.1 (ap (take 2) (seen (Ok Error) a)),
     )
 
-    pub told-shift : (u : ℕ) → (r ≡ true) ↔ ((number ≡ 0) × (word % 4 ≡ 1) × (word / 4 ≡ u)) → (r ≡ true) ↔ ActsTold (Shift u) number word
+    pub told-shift : (u : ℕ) → (r ≡ true) ↔ ((number ≡ 0) × (word % 4 ≡ 1) × (word / 4 ≡ u)) → (r ≡ true) ↔ ActsTold (Ok (Shift u)) number word
     told-shift u f = (
-      λ t. read_as (Shift u) 1 (f.0 t).0 (f.0 t).1 (ap (λ v. acted_of (Shift v)) (sym (f.0 t).2)),
-      λ a. f.1 (three number (word % 4) _ _ (word / 4) _ (seen (Shift u) a)),
+      λ t. read_as (Ok (Shift u)) 1 (f.0 t).0 (f.0 t).1 (ap (λ v. acted_of (Ok (Shift v))) (sym (f.0 t).2)),
+      λ a. f.1 (three number (word % 4) _ _ (word / 4) _ (seen (Ok (Shift u)) a)),
     )
 
-    pub told-reduce : (p : ℕ) → (r ≡ true) ↔ ((number ≡ 0) × (word % 4 ≡ 2) × (word / 4 ≡ p)) → (r ≡ true) ↔ ActsTold (Reduce p) number word
+    pub told-reduce : (p : ℕ) → (r ≡ true) ↔ ((number ≡ 0) × (word % 4 ≡ 2) × (word / 4 ≡ p)) → (r ≡ true) ↔ ActsTold (Ok (Reduce p)) number word
     told-reduce p f = (
-      λ t. read_as (Reduce p) 2 (f.0 t).0 (f.0 t).1 (ap (λ v. acted_of (Reduce v)) (sym (f.0 t).2)),
-      λ a. f.1 (three number (word % 4) _ _ (word / 4) _ (seen (Reduce p) a)),
+      λ t. read_as (Ok (Reduce p)) 2 (f.0 t).0 (f.0 t).1 (ap (λ v. acted_of (Ok (Reduce v))) (sym (f.0 t).2)),
+      λ a. f.1 (three number (word % 4) _ _ (word / 4) _ (seen (Ok (Reduce p)) a)),
     )
 
-    pub told-accept : (r ≡ true) ↔ (number ∷ word % 4 ∷ [] ≡ 0 ∷ 3 ∷ []) → (r ≡ true) ↔ ActsTold Accept number word
+    pub told-accept : (r ≡ true) ↔ (number ∷ word % 4 ∷ [] ≡ 0 ∷ 3 ∷ []) → (r ≡ true) ↔ ActsTold (Ok Accept) number word
     told-accept f = (
-      λ t. read_as Accept 3 (ap (λ l. get_or l 0 0) (f.0 t)) (ap (λ l. get_or l 1 0) (f.0 t)) refl,
-      λ a. f.1 (ap (take 2) (seen Accept a)),
+      λ t. read_as (Ok Accept) 3 (ap (λ l. get_or l 0 0) (f.0 t)) (ap (λ l. get_or l 1 0) (f.0 t)) refl,
+      λ a. f.1 (ap (take 2) (seen (Ok Accept) a)),
     )
 
-    pub told-refused : (n : ℕ) → (r ≡ true) ↔ (number ∷ word ∷ [] ≡ n ∷ 0 ∷ []) → (r ≡ true) ↔ ActsTold (Refused n) number word
-    told-refused n f = (
-      λ t. record { answer = refused (n ∷ []); words = f.0 t; action = refl },
-      λ a. f.1 (refusal n a),
+    pub told-refused : (e : QueryRefusal) → (r ≡ true) ↔ (number ∷ word ∷ [] ≡ number_of e ∷ 0 ∷ []) → (r ≡ true) ↔ ActsTold (Err e) number word
+    told-refused e f = (
+      λ t. record { answer = refused (number_of e ∷ []); words = f.0 t; action = refl },
+      λ a. f.1 (refusal e a),
     )

@@ -6,10 +6,12 @@ use mathlib.Core.Path.{◌≡◌, refl, sym, ap, ◌∙◌}
 use Prim.Native.Nat.{ℕ, suc}
 use native.Mathlib.Omega.{arith}
 use lib.ListN.{length, get_or, drop}
+use Rattle.std.specs.Prelude.{Result}
 use Rattle.block.specs.Block.{tokens}
 use Rattle.pager.specs.Lists.{Answer, is, refused}
 use Rattle.statetable.specs.Queries.{query_of, acted_of, decoded}
-use Rattle.statetable.specs.declared.queries.Acts.{Acts}
+use Rattle.statetable.specs.declared.cell.Action.{Action}
+use Rattle.statetable.specs.declared.queries.QueryRefusal.{QueryRefusal}
 use Rattle.listed_statetable.specs.Queries.{found_words, ActsTold, asked_of, WordCase}
 use Rattle.listed_statetable.proofs.AskedKinds.{asked-at}
 
@@ -48,7 +50,7 @@ module _ (kind : ℕ) (b : List ℕ) (states : ℕ) (table last : List ℕ) wher
     )
 
     -- a cell: the answer is also the one that the action was read from
-    pub case-told : (acts : Acts) → kind ≡ 0 → acted_of acts ≡ decoded (query_of b states table (tokens b) s i)
+    pub case-told : (acts : Result Action QueryRefusal) → kind ≡ 0 → acted_of acts ≡ decoded (query_of b states table (tokens b) s i)
         → WordCase kind b states table last → ActsTold acts (get_or last 2 0) (get_or last 3 0)
     case-told acts z e g = record {
       answer = asked_of 0 b states table s i;

@@ -1,10 +1,11 @@
 -- When a line of the list of queries holds. Assumes nothing.
-use Rattle.std.specs.Prelude.{List, [], ◌∷◌, ◌≡◌, ℕ, zero, suc, ◌≤◌, get_or}
+use Rattle.std.specs.Prelude.{List, [], ◌∷◌, Result, ◌≡◌, ℕ, zero, suc, ◌≤◌, get_or}
 use Rattle.words.specs.Given.{Given}
 use Rattle.block.specs.Block.{tokens, rules, prods}
 use Rattle.pager.specs.Lists.{Answer, is, refused}
 use Rattle.statetable.specs.Queries.{query_of, acted_of, decoded}
-use Rattle.statetable.specs.declared.queries.Acts.{Acts}
+use Rattle.statetable.specs.declared.cell.Action.{Action}
+use Rattle.statetable.specs.declared.queries.QueryRefusal.{QueryRefusal}
 use Rattle.listed_block.specs.Rooms.{BLOCK}
 
 -- number word
@@ -13,7 +14,7 @@ found_words (is w) = 0 ∷ w ∷ []
 found_words (refused why) = get_or why 0 0 ∷ 0 ∷ []
 
 -- number word: they tell an answer, and the action is that answer read as a cell
-pub record ActsTold (acts : Acts) (number word : ℕ) : Type 0 where
+pub record ActsTold (acts : Result Action QueryRefusal) (number word : ℕ) : Type 0 where
   pub answer : Answer ℕ
   pub words : number ∷ word ∷ [] ≡ found_words answer
   pub action : acted_of acts ≡ decoded answer

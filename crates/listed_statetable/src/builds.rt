@@ -1,4 +1,4 @@
-// The list of tables: graph and tables in one call.
+//! The list of tables: graph and tables in one call.
 ghost use Rattle.std.specs.Prelude.{true, ◌++◌, ◌↔◌, ◌≡◌, ◌^◌, ◌<◌, ◌≤◌, get_or};
 ghost use Rattle.pager.specs.Call as graph;
 ghost use Rattle.statetable.specs.Build.{lent_all, answer_of};
@@ -10,26 +10,26 @@ ghost use Rattle.listed_statetable.specs.Builds.{buffer_parts, lent_all_for, Bui
 use crate::tables::{NUMBERS, numbers_of, tables_hold};
 use listed_block::rooms::{BLOCK, ROOM, bounded};
 use listed_pager::{Work, graph_begins, lent, work_holds, work_of};
-use statetable::{Named, StateTable, build};
-use words::{behind, behind_three, index, narrow, numbers_begin, part};
+use statetable::{BuildRefusal, Counts, Named, build};
+use words::{behind_three, given, index, numbers_begin};
 
-// Lengths of a case: one for each output buffer.
+/// Lengths of a case: one for each output buffer.
 const LENGTHS: usize = 11;
 
-// The words lent to the buffer of that number.
+/// The words lent to the buffer of that number.
 fn room_at(lengths: &[u64], k: usize) -> usize
     ensures length { result ≡ bounded_of (get_or lengths.now k 0) }
     ensures most { result ≤ ROOM }
 {
-    if lengths.len() <= k {
-        return 0;
+    match lengths.get(k) {
+        Some(length) => bounded(index(*length)),
+        None => 0,
     }
-    bounded(index(lengths[k]))
 }
 
-// What is expected of the call: number a b c  states items before rr sr settled  eleven [buffer]; and the work room.
+/// What is expected of the call: number a b c  states items before rr sr settled  eleven [buffer]; and the work room.
 fn all_hold(
-    answer: StateTable,
+    answer: Result<Counts, BuildRefusal>,
     work: Work,
     fill: u32,
     expected: &[u64],
@@ -70,7 +70,8 @@ fn all_hold(
     work_holds(expected[0], work, fill, marks, closed, kernel)
 }
 
-// The call, and what is expected of it.
+/// The call, and what is expected of it.
+// stays: the parameters are those of `build`, whose buffers the C interface lends one by one; so in all_hold and tables_hold.
 fn call_holds(
     block: &[u32],
     named: Named,
@@ -107,7 +108,7 @@ fn call_holds(
     )
 }
 
-// Lends the fronts of filled rooms, by the lengths of the eleven buffers and what work room is needed.
+/// Lends the fronts of filled rooms, by the lengths of the eleven buffers and what work room is needed.
 fn built_holds(
     block: &[u32],
     named: Named,
@@ -157,13 +158,13 @@ fn built_holds(
     )
 }
 
-// eleven lengths  → number a b c ..
+/// eleven lengths  → number a b c ..
 fn lent_holds(block: &[u32], named: Named, fill: u64, rest: &[u64]) -> bool
     ensures { (result ≡ true) ↔ ((fill < 2 ^ 32) × LentCase block.now named fill rest.now) }
 {
-    if 4294967295 < fill {
+    let Ok(fill) = u32::try_from(fill) else {
         return false;
-    }
+    };
     if rest.len() < LENGTHS {
         return false;
     }
@@ -171,28 +172,18 @@ fn lent_holds(block: &[u32], named: Named, fill: u64, rest: &[u64]) -> bool
     if ROOM < work.closed {
         return false;
     }
-    built_holds(
-        block,
-        named,
-        work,
-        fill as u32,
-        &rest[..LENGTHS],
-        &rest[LENGTHS..],
-    )
+    built_holds(block, named, work, fill, &rest[..LENGTHS], &rest[LENGTHS..])
 }
 
-// [block] S I limit-rr limit-sr fill  eleven lengths
-//   → number a b c  states items before rr sr settled  eleven [buffer]
+/// [block] S I limit-rr limit-sr fill  eleven lengths
+///   → number a b c  states items before rr sr settled  eleven [buffer]
 pub fn build_holds(words: &[u64]) -> bool
     ensures { (result ≡ true) ↔ BuildCase words.now }
 {
     let mut room = [0u32; BLOCK];
-    let block = part(words);
-    let n = narrow(block, &mut room);
-    if n != block.len() {
+    let Some((block, rest)) = given(words, &mut room) else {
         return false;
-    }
-    let rest = behind(words);
+    };
     if rest.len() < 5 {
         return false;
     }
@@ -202,5 +193,5 @@ pub fn build_holds(words: &[u64]) -> bool
         rr: index(rest[2]),
         sr: index(rest[3]),
     };
-    lent_holds(&room[..n], named, rest[4], &rest[5..])
+    lent_holds(block, named, rest[4], &rest[5..])
 }

@@ -1,4 +1,4 @@
-// The listed cases of the crate `statetable`: builds and queries.
+//! The listed cases of the crate `statetable`: builds and queries.
 #![tactic(auto)]
 
 mod builds;

@@ -1,5 +1,5 @@
-// The list of queries.
-ghost use Rattle.std.specs.Prelude.{true, [], ◌∷◌, ◌↔◌, ◌≡◌, ◌/◌, ◌%◌, ◌≤◌};
+//! The list of queries.
+ghost use Rattle.std.specs.Prelude.{Ok, true, [], ◌∷◌, ◌↔◌, ◌≡◌, ◌/◌, ◌%◌, ◌≤◌};
 ghost use Rattle.words.specs.Given.{Given};
 ghost use Rattle.statetable.specs.Queries.{found_of};
 ghost use Rattle.listed_block.specs.Rooms.{BLOCK};
@@ -7,12 +7,19 @@ ghost use Rattle.listed_statetable.specs.Queries.{found_words, ActsTold, asked_o
 
 use listed_block::rooms::BLOCK;
 use statetable::{
-    Acts, Found, action, cell_word, core_mark, goto_word, offered, only_mark, shift_mark,
+    Action, QueryRefusal, action, cell_word, core_mark, goto_word, offered, only_mark, shift_mark,
 };
-use words::{behind, index, narrow, part};
+use words::{given, index};
 
-// What the query of that kind finds.
-fn found_of(kind: u64, block: &[u32], states: usize, table: &[u32], s: usize, i: usize) -> Found
+/// What the query of that kind finds.
+fn found_of(
+    kind: u64,
+    block: &[u32],
+    states: usize,
+    table: &[u32],
+    s: usize,
+    i: usize,
+) -> Result<u32, QueryRefusal>
     requires known { kind ≤ 5 }
     requires none { kind ≡ 5 → i ≡ 0 }
     ensures { found_of result ≡ asked_of kind block.now states table.now s i }
@@ -27,6 +34,7 @@ fn found_of(kind: u64, block: &[u32], states: usize, table: &[u32], s: usize, i:
     }
 }
 
+/// Whether the two numbers are these.
 fn is_pair(number: u64, word: u64, n: u32, w: u32) -> bool
     ensures { (result ≡ true) ↔ (number ∷ word ∷ [] ≡ n ∷ w ∷ []) }
 {
@@ -36,17 +44,17 @@ fn is_pair(number: u64, word: u64, n: u32, w: u32) -> bool
     word == w as u64
 }
 
-// number word
-fn found_is(found: Found, number: u64, word: u64) -> bool
+/// number word
+fn found_is(found: Result<u32, QueryRefusal>, number: u64, word: u64) -> bool
     ensures { (result ≡ true) ↔ (number ∷ word ∷ [] ≡ found_words (found_of found)) }
 {
     match found {
-        Found::Word(w) => is_pair(number, word, 0, w),
-        Found::Refused(n) => is_pair(number, word, n, 0),
+        Ok(w) => is_pair(number, word, 0, w),
+        Err(refusal) => is_pair(number, word, refusal.number(), 0),
     }
 }
 
-// Whether the word is a cell of that kind with that value.
+/// Whether the word is a cell of that kind with that value.
 fn is_coded(number: u64, word: u64, kind: u32, value: u32) -> bool
     ensures { (result ≡ true) ↔ ((number ≡ 0) × (word % 4 ≡ kind) × (word / 4 ≡ value)) }
 {
@@ -56,35 +64,40 @@ fn is_coded(number: u64, word: u64, kind: u32, value: u32) -> bool
     word / 4 == value as u64
 }
 
-// number word: whether the action is the one that the low two bits of the word decide on, or refused with that number.
-fn acts_is(acts: Acts, number: u64, word: u64) -> bool
-    ensures { (result ≡ true) ↔ ActsTold acts number word }
+/// number word: whether the action is the one that the low two bits of the word decide on.
+fn action_is(action: Action, number: u64, word: u64) -> bool
+    ensures { (result ≡ true) ↔ ActsTold (Ok action) number word }
 {
-    match acts {
-        Acts::Error => is_pair(number, word % 4, 0, 0),
-        Acts::Shift(s) => is_coded(number, word, 1, s),
-        Acts::Reduce(p) => is_coded(number, word, 2, p),
-        Acts::Accept => is_pair(number, word % 4, 0, 3),
-        Acts::Refused(n) => is_pair(number, word, n, 0),
+    match action {
+        Action::Error => is_pair(number, word % 4, 0, 0),
+        Action::Shift(s) => is_coded(number, word, 1, s),
+        Action::Reduce(p) => is_coded(number, word, 2, p),
+        Action::Accept => is_pair(number, word % 4, 0, 3),
     }
 }
 
-// [table] state column → number word
+/// number word: the same of a query of an action, or refused with that number.
+fn acts_is(acts: Result<Action, QueryRefusal>, number: u64, word: u64) -> bool
+    ensures { (result ≡ true) ↔ ActsTold acts number word }
+{
+    match acts {
+        Ok(action) => action_is(action, number, word),
+        Err(refusal) => is_pair(number, word, refusal.number(), 0),
+    }
+}
+
+/// [table] state column → number word
 fn word_holds(kind: u64, block: &[u32], states: usize, rest: &[u64]) -> bool
     requires { kind ≤ 5 }
     ensures { (result ≡ true) ↔ Given BLOCK (WordCase kind block.now states) rest.now }
 {
     let mut room = [0u32; BLOCK];
-    let given = part(rest);
-    let n = narrow(given, &mut room);
-    if n != given.len() {
+    let Some((table, last)) = given(rest, &mut room) else {
         return false;
-    }
-    let last = behind(rest);
+    };
     if last.len() != 4 {
         return false;
     }
-    let table = &room[..n];
     let s = index(last[0]);
     let i = index(last[1]);
     let number = last[2];
@@ -103,25 +116,22 @@ fn word_holds(kind: u64, block: &[u32], states: usize, rest: &[u64]) -> bool
     found_is(found_of(kind, block, states, table, s, i), number, word)
 }
 
-// [block] states [table] state column → number word
+/// [block] states [table] state column → number word
 fn asked_holds(kind: u64, words: &[u64]) -> bool
     requires { kind ≤ 5 }
     ensures { (result ≡ true) ↔ Given BLOCK (TableCase kind) words.now }
 {
     let mut room = [0u32; BLOCK];
-    let block = part(words);
-    let n = narrow(block, &mut room);
-    if n != block.len() {
+    let Some((block, rest)) = given(words, &mut room) else {
+        return false;
+    };
+    if rest.is_empty() {
         return false;
     }
-    let rest = behind(words);
-    if rest.len() == 0 {
-        return false;
-    }
-    word_holds(kind, &room[..n], index(rest[0]), &rest[1..])
+    word_holds(kind, block, index(rest[0]), &rest[1..])
 }
 
-// kind [block] states [table] state column → number word
+/// kind [block] states [table] state column → number word
 pub fn query_holds(words: &[u64]) -> bool
     ensures { (result ≡ true) ↔ QueryCase words.now }
 {

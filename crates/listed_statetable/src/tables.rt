@@ -1,17 +1,17 @@
-// What is expected of a build: numbers, tables, marks and lists.
+//! What is expected of a build: numbers, tables, marks and lists.
 ghost use Rattle.std.specs.Prelude.{true, ◌++◌, ◌↔◌, ◌≡◌, length};
 ghost use Rattle.words.specs.Given.{as_part};
 ghost use Rattle.words.specs.Parts.{behind_of};
 ghost use Rattle.statetable.specs.Build.{answer_of};
 ghost use Rattle.listed_statetable.specs.Tables.{refusal_numbers, made_numbers, numbers, table_parts};
 
-use statetable::{Counts, StateTable};
-use words::{begins32, behind, behind_three};
+use statetable::{BuildRefusal, Counts};
+use words::{begins, behind, behind_three};
 
-// Numbers of an answer.
+/// Numbers of an answer.
 pub const NUMBERS: usize = 10;
 
-// A refusal: number a b c, then zeros. The count of numbers is told since lending the array needs it.
+/// A refusal: number a b c, then zeros. The count of numbers is told since lending the array needs it.
 fn refusal(number: u32, a: u32, b: u32, c: u32) -> [u64; NUMBERS]
     ensures numbers { result ≡ refusal_numbers number a b c }
     ensures count { 10 ≡ length result }
@@ -30,7 +30,7 @@ fn refusal(number: u32, a: u32, b: u32, c: u32) -> [u64; NUMBERS]
     ]
 }
 
-// number a b c  states items before rr sr settled, of a build
+/// number a b c  states items before rr sr settled, of a build
 fn made(c: Counts) -> [u64; NUMBERS]
     ensures numbers { result ≡ made_numbers c }
     ensures count { 10 ≡ length result }
@@ -49,49 +49,65 @@ fn made(c: Counts) -> [u64; NUMBERS]
     ]
 }
 
-// number a b c  states items before rr sr settled
-pub fn numbers_of(answer: StateTable) -> [u64; NUMBERS]
+/// number a b c  states items before rr sr settled
+pub fn numbers_of(answer: Result<Counts, BuildRefusal>) -> [u64; NUMBERS]
     ensures numbers { result ≡ numbers (answer_of answer) }
     ensures count { 10 ≡ length result }
 {
     match answer {
-        StateTable::Made(c) => made(c),
-        StateTable::Refused(n) => refusal(n, 0, 0, 0),
-        StateTable::AcceptSome(r, start) => refusal(11, 1, r, start),
-        StateTable::AcceptNone(r) => refusal(11, 0, 0, r),
-        StateTable::MixedKinds(t, p, s) => refusal(12, t, p, s),
+        Ok(counts) => made(counts),
+        Err(
+            BuildRefusal::AcceptReduce {
+                there: Some(r),
+                coming,
+            },
+        ) => refusal(11, 1, r, coming),
+        Err(
+            BuildRefusal::AcceptReduce {
+                there: None,
+                coming,
+            },
+        ) => refusal(11, 0, 0, coming),
+        Err(
+            BuildRefusal::MixedKinds {
+                token,
+                production,
+                state,
+            },
+        ) => refusal(12, token, production, state),
+        Err(refused) => refusal(refused.number(), 0, 0, 0),
     }
 }
 
-// [first] [second] [third]
+/// [first] [second] [third]
 fn three_begin(expected: &[u64], first: &[u32], second: &[u32], third: &[u32]) -> bool
     ensures { (result ≡ true) ↔ (expected.now ≡ as_part first.now ++ (as_part second.now ++ (as_part third.now ++ behind_of (behind_of (behind_of expected.now))))) }
 {
-    if !begins32(expected, first) {
+    if !begins(expected, first) {
         return false;
     }
     let next = behind(expected);
-    if !begins32(next, second) {
+    if !begins(next, second) {
         return false;
     }
-    begins32(behind(next), third)
+    begins(behind(next), third)
 }
 
-// [reduce/reduce list] [shift/reduce list], and nothing behind them
+/// [reduce/reduce list] [shift/reduce list], and nothing behind them
 fn lists_hold(expected: &[u64], rr: &[u32], sr: &[u32]) -> bool
     ensures { (result ≡ true) ↔ (expected.now ≡ as_part rr.now ++ as_part sr.now) }
 {
-    if !begins32(expected, rr) {
+    if !begins(expected, rr) {
         return false;
     }
     let next = behind(expected);
-    if !begins32(next, sr) {
+    if !begins(next, sr) {
         return false;
     }
     behind(next).len() == 0
 }
 
-// [actions] [gotos] [offered] [shifts] [core-reduces] [reduce-only] [reduce/reduce list] [shift/reduce list]
+/// [actions] [gotos] [offered] [shifts] [core-reduces] [reduce-only] [reduce/reduce list] [shift/reduce list]
 pub fn tables_hold(
     expected: &[u64],
     actions: &[u32],

@@ -22,7 +22,6 @@ use Rattle.knuth.proofs.Runs.{ran, ended-steps}
 use Rattle.knuth.proofs.Same.{same-run}
 use Rattle.block.specs.Grammar.{grammar_of}
 use Rattle.block.specs.Refusal.{Good}
-use Rattle.block.specs.Answer.{sizes_of}
 use Rattle.block.proofs.Valid.{good-valid}
 use Rattle.pager.specs.Lists.{find, Answer, is, refused, unless}
 use Rattle.statetable.specs.Read.{tables_in}
@@ -30,7 +29,7 @@ use Rattle.machine.specs.Moves.{lent}
 use Rattle.machine.specs.Call.{Call, room_short, turned_away, bad_token, machine_of, unless_bad, run_call}
 use Rattle.machine.specs.Exactly.{Roomy, ClaimExactly, ClaimSteps}
 use Rattle.pager.proofs.CallLaws as tests
-use Rattle.pager.proofs.ByIndex.{find-nowhere}
+use Rattle.pager.proofs.ByIndex.{find-nowhere, found_nowhere}
 use Rattle.machine.proofs.Tokens.{passed, not-bad}
 use Rattle.machine.proofs.CallWays as ways
 
@@ -75,7 +74,7 @@ run-steps a why n c q = ended-steps (G a) (T a) (L a) a.input why n c (answered 
 tokens-fine : (b w : List ℕ) → Input (grammar_of b) w → (j : ℕ) → j < length w → bad_token b (get_or w j 0) ≡ false
 tokens-fine b w i j l =
     let t = i (get_or w j 0) (drop-mem j w (drop-cons w j 0 l)) in
-    not-bad b (sizes_of b) refl (get_or w j 0) t.0 t.1
+    not-bad b (get_or w j 0) t.0 t.1
 
 roomy-run : (a : Call) (k : ℕ) → Good a.block → 1 ≤ a.states → Roomy a k → Input (grammar_of a.block) a.input → run_call a ≡ machine_of a
 unfolding room_short
@@ -88,8 +87,8 @@ roomy-run a k g s R i =
     (tests.next _ _ _ false R.few-tokens
     (tests.next _ _ _ false R.few-steps
     (sym (le-ltb (length a.stack) 1 (let h = R.allows.1 in omega arith)) ∙ tests.last (length a.stack) 1)))))))
-    ) (length a.input)
-    (find-nowhere (bad_token a.block) 0 a.input (length a.input) refl (tokens-fine a.block a.input i)) (omega arith)
+    )
+    (found_nowhere (bad_token a.block) 0 a.input (length a.input) (find-nowhere (bad_token a.block) 0 a.input (length a.input) refl (tokens-fine a.block a.input i)) (omega arith))
 
 -- ---- a bad table is met only where the step is one
 abbrev IsBad : Step → Type 0

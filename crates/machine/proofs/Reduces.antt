@@ -7,28 +7,29 @@ use mathlib.Core.Path.{◌≡◌, refl, sym, ap, ◌∙◌, subst}
 use Prim.Native.Nat.{ℕ, zero, suc, ◌+◌, ◌*◌, ◌-◌, ◌≤◌, ◌<◌}
 use native.Mathlib.Numerals.{add-one}
 use native.Mathlib.Omega.{arith}
-use borrow.Author.Tests.{lt-ltb, le-ltb, le-leb, lt-leb, leb-true, leb-false, eq-eqb, ne_eqb}
+use borrow.Author.Tests.{lt-ltb, le-ltb, le-leb, lt-leb, ltb-true, eq-eqb, ne_eqb}
 use lib.Dec.{ltb, leb, eqb}
 use lib.ListN.{length, get_or, set, take, drop, replicate, length-append, length-set, length-map, length-reverse, length-drop, take-append-drop, drop_of_length-le, replicate-append-replicate}
 use lib.Seq.{set_at, take_at, drop_at, get_or_at, drop-cons}
+use Rattle.std.specs.Prelude.{Option, Some, None, Result, Ok, Err}
 use Rattle.knuth.specs.Tables.{Tables, Action}
 use Rattle.knuth.specs.Machine.{Config, at, guard, goes, bad-table, do-goto, do-reduce}
 use Rattle.knuth.specs.Limits.{Why, fits, within}
 use Rattle.knuth.proofs.Lists.{drop-mem, drop-within}
 use Rattle.block.specs.Block.{prods, rules, start_prod, rule_of, length_of, body_of}
 use Rattle.block.specs.Grammar.{symbol, grammar_of}
-use Rattle.block.specs.Answer.{sizes_of}
-use Rattle.block.specs.Refusal.{Good, Known}
-use Rattle.block.specs.declared.check.Sizes.{Sizes}
+use Rattle.block.specs.Refusal.{Good}
 use Rattle.block.proofs.Good.{body-length}
 use Rattle.pager.specs.Automaton.{target}
 use Rattle.pager.specs.Memory.{pad}
 use Rattle.statetable.specs.Read.{tables_in}
-use Rattle.machine.specs.Memory.{cleared, up_to}
+use Rattle.machine.specs.Memory.{cleared, state_in}
 use Rattle.machine.specs.Moves.{lent, doing, Ready, Stepped}
 use Rattle.machine.specs.declared.answers.Run.{Run}
 use Rattle.machine.specs.declared.answers.Step.{Step}
-use Rattle.machine.specs.declared.answers.Step.TheVariants.{On, Refused}
+use Rattle.machine.specs.declared.answers.Step.TheVariants.{On}
+use Rattle.machine.specs.declared.answers.StepRefusal.{StepRefusal}
+use Rattle.machine.specs.declared.answers.StepRefusal.TheVariants.{StackRoom, OutputRoom, BadTable}
 use Rattle.machine.proofs.Standing.{run_is, output-length, height-is, k-is, stays, goes_on}
 use Rattle.machine.proofs.Shifts.{store-top, room-output, room-stack, room-both}
 
@@ -69,31 +70,27 @@ out-more out old k p e l =
 -- ---- the goto word
 module _ (T : Tables) (p s : ℕ) (st rest out : List ℕ) where
   -- there is none, or it is to no state
-  pub goto-bad : (w : ℕ) → up_to T.states w ≡ 0 → do-goto T (target w) p s st rest out ≡ bad-table
-  goto-bad zero e = refl
-  goto-bad (suc w) e = go (leb (suc w) T.states) refl e
+  pub goto-bad : (w : ℕ) → ((e : ℕ) → state_in T.states w ≡ Some e → ⊥) → do-goto T (target w) p s st rest out ≡ bad-table
+  goto-bad zero d = refl
+  goto-bad (suc w) d = go (ltb w T.states) d
     where
-      go : (x : Bool) → leb (suc w) T.states ≡ x → ◌≡◌ {A = ℕ} (cond x (suc w) 0) 0 → do-goto T (target (suc w)) p s st rest out ≡ bad-table
-      go true q z = absurd (omega arith)
-      go false q z = ap (λ (x : Bool). guard x (goes (at w (s ∷ st) rest (out ++ p ∷ [])))) (le-ltb w T.states (let h = leb-false (suc w) T.states q in omega arith))
+      go : (x : Bool) → ((e : ℕ) → ◌≡◌ {A = Option ℕ} (cond x (Some w) None) (Some e) → ⊥) → guard x (goes (at w (s ∷ st) rest (out ++ p ∷ []))) ≡ bad-table
+      go true d = absurd (d w refl)
+      go false d = refl
 
-  pub goto-good : (w e : ℕ) → e ≡ up_to T.states w → (e ≡ 0 → ⊥)
-      → (e - 1 < T.states) × (do-goto T (target w) p s st rest out ≡ goes (at (e - 1) (s ∷ st) rest (out ++ p ∷ [])))
-  goto-good zero e q d = absurd (d (q ∙ none (leb 0 T.states)))
+  pub goto-good : (w e : ℕ) → Some e ≡ state_in T.states w
+      → (e < T.states) × (do-goto T (target w) p s st rest out ≡ goes (at e (s ∷ st) rest (out ++ p ∷ [])))
+  goto-good zero e q = cc
+  goto-good (suc w) e q = go (ltb w T.states) refl q
     where
-      none : (x : Bool) → ◌≡◌ {A = ℕ} (cond x 0 0) 0
-      none true = refl
-      none false = refl
-  goto-good (suc w) e q d = go (leb (suc w) T.states) refl q
-    where
-      go : (x : Bool) → leb (suc w) T.states ≡ x → e ≡ cond x (suc w) 0
-          → (e - 1 < T.states) × (do-goto T (target (suc w)) p s st rest out ≡ goes (at (e - 1) (s ∷ st) rest (out ++ p ∷ [])))
-      go false f z = absurd (d z)
+      go : (x : Bool) → ltb w T.states ≡ x → ◌≡◌ {A = Option ℕ} (Some e) (cond x (Some w) None)
+          → (e < T.states) × (do-goto T (target (suc w)) p s st rest out ≡ goes (at e (s ∷ st) rest (out ++ p ∷ [])))
+      go false f z = cc
       go true f z =
-          let h : w < T.states = leb-true (suc w) T.states f in
-          let r : w ≡ e - 1 = omega arith in (
+          let r : w ≡ e = cc in
+          let h : w < T.states = ltb-true w T.states f in (
             omega arith,
-            ap (λ (x : Bool). guard x (goes (at w (s ∷ st) rest (out ++ p ∷ [])))) (lt-ltb w T.states h)
+            ap (λ (x : Bool). guard x (goes (at w (s ∷ st) rest (out ++ p ∷ [])))) f
                 ∙ ap (λ (x : ℕ). goes (at x (s ∷ st) rest (out ++ p ∷ []))) r,
           )
 
@@ -101,34 +98,41 @@ module _ (T : Tables) (p s : ℕ) (st rest out : List ℕ) where
 abbrev inner : List ℕ → ℕ → Bool
 inner b p = ltb p (prods b) && not (eqb p (start_prod b))
 
-module _ (b : List ℕ) (z : Sizes) (e : z ≡ sizes_of b) (p : ℕ) where
-  pub past-prods : z.prods ≤ p → inner b p ≡ false
-  past-prods h = ap (λ (x : Bool). x && not (eqb p (start_prod b))) (le-ltb p (prods b) (subst (λ (y : Sizes). y.prods ≤ p) e h))
+-- n productions, the start production q
+module _ (b : List ℕ) (n q : ℕ) (e : n ≡ prods b) (f : q ≡ start_prod b) (p : ℕ) where
+  pub past-prods : n ≤ p → inner b p ≡ false
+  past-prods h = ap (λ (x : Bool). x && not (eqb p (start_prod b))) (le-ltb p (prods b) (omega (arith, e, h)))
 
-  pub start-prod : p ≡ z.start → inner b p ≡ false
+  pub start-prod : p ≡ q → inner b p ≡ false
   start-prod h =
-      ap (λ (x : Bool). ltb p (prods b) && not x) (eq-eqb p (start_prod b) (h ∙ ap (λ (y : Sizes). y.start) e)) ∙ and-false (ltb p (prods b))
+      ap (λ (x : Bool). ltb p (prods b) && not x) (eq-eqb p (start_prod b) (h ∙ f)) ∙ and-false (ltb p (prods b))
 
-  pub inner-prod : p < z.prods → (p ≡ z.start → ⊥) → inner b p ≡ true
+  inner-prod : p < n → (p ≡ q → ⊥) → inner b p ≡ true
   inner-prod h d =
-      ap (λ (x : Bool). x && not (eqb p (start_prod b))) (lt-ltb p (prods b) (subst (λ (y : Sizes). p < y.prods) e h))
-      ∙ ap not (ne_eqb p (start_prod b) (λ q. d (q ∙ ap (λ (y : Sizes). y.start) (sym e))))
+      ap (λ (x : Bool). x && not (eqb p (start_prod b))) (lt-ltb p (prods b) (omega (arith, e, h)))
+      ∙ ap not (ne_eqb p (start_prod b) (λ k. d (k ∙ sym f)))
 
-  pub known-prod : Good b → p < z.prods → Known b p
-  known-prod g h = record { good = g; below = subst (λ (y : Sizes). p < y.prods) e h }
+-- a production that may be reduced, of n symbols
+pub record Reducible (b : List ℕ) (p n : ℕ) : Type 0 where
+  pub may : inner b p ≡ true
+  pub len : n ≡ length ((grammar_of b).body p)
 
-pub body-size : {b : List ℕ} {p : ℕ} → Known b p → (n : ℕ) → n ≡ length_of b p → n ≡ length ((grammar_of b).body p)
-body-size {b = b} {p = p} k n q = q ∙ sym (length-map (body_of b p) symbol ∙ body-length p k)
+pub reducible : {b : List ℕ} (p : ℕ) → Good b → (m : ℕ) → m ≡ prods b → (q : ℕ) → q ≡ start_prod b → p < m → (p ≡ q → ⊥) → (n : ℕ) → n ≡ length_of b p → Reducible b p n
+reducible {b = b} p g m e q f h d n l =
+    record {
+      may = inner-prod b m q e f p h d;
+      len = l ∙ sym (length-map (body_of b p) symbol ∙ body-length p (record { good = g; below = omega (arith, e, h) }));
+    }
 
 -- ---- the step
-abbrev Reduced : List ℕ → ℕ → (actions gotos input : List ℕ) → Run → Config → (stack output old : List ℕ) → ℕ → Step → (stack' output' : List ℕ) → Type 0
+abbrev Reduced : List ℕ → ℕ → (actions gotos input : List ℕ) → Run → Config → (stack output old : List ℕ) → ℕ → Result Step StepRefusal → (stack' output' : List ℕ) → Type 0
 Reduced b states actions gotos input run c stack output old p r stack' output' =
     Stepped states input run c (within (lent zero stack output) (doing (grammar_of b) (tables_in b states actions gotos) (Action.reduce p) c)) r stack' output' old
 
 module _ {b actions gotos input stack output old : List ℕ} {states : ℕ} {run : Run} (p : ℕ) where
   -- 17: of no production or of the start production
   pub reduce-unknown : (c : Config) → Ready b states actions gotos input run stack output old c → inner b p ≡ false
-      → Reduced b states actions gotos input run c stack output old p (Refused 17) stack output
+      → Reduced b states actions gotos input run c stack output old p (Err BadTable) stack output
   reduce-unknown (at s st rest out) R h =
       stays R Why.bad _
       (ap (λ (x : Bool). within (lent zero stack output) (guard x (do-reduce (grammar_of b) (tables_in b states actions gotos) p (drop (length ((grammar_of b).body p)) (s ∷ st)) rest out))) h) _ refl
@@ -144,13 +148,13 @@ left b states actions gotos stack output p good n len s st rest out l e =
     ap (λ (x : Bool). within (lent zero stack output) (guard x (do-reduce G T p (drop (length (G.body p)) (s ∷ st)) rest out))) good
     ∙ ap (λ (x : List ℕ). within (lent zero stack output) (do-reduce G T p x rest out)) (ap (λ (k : ℕ). drop k (s ∷ st)) (sym len) ∙ e)
 
-module _ {b actions gotos input stack output old : List ℕ} {states : ℕ} {run : Run} (p : ℕ) (good : inner b p ≡ true) (n : ℕ) (len : n ≡ length ((grammar_of b).body p)) where
+module _ {b actions gotos input stack output old : List ℕ} {states : ℕ} {run : Run} (p n : ℕ) (I : Reducible b p n) where
   -- 17: fewer slots above the first than its length
   pub reduce-shallow : (c : Config) → Ready b states actions gotos input run stack output old c → run.height ≤ n
-      → Reduced b states actions gotos input run c stack output old p (Refused 17) stack output
+      → Reduced b states actions gotos input run c stack output old p (Err BadTable) stack output
   reduce-shallow (at s st rest out) R h =
       stays R Why.bad _
-      (left b states actions gotos stack output p good n len s st rest out [] (drop_of_length-le (s ∷ st) {i = n} (omega (arith, height-is R)))) _ refl
+      (left b states actions gotos stack output p I.may n I.len s st rest out [] (drop_of_length-le (s ∷ st) {i = n} (omega (arith, height-is R)))) _ refl
 
   module _ (s : ℕ) (st rest out : List ℕ) (R : Ready b states actions gotos input run stack output old (at s st rest out)) (deep : n < run.height) where
     -- the state and the states below it, once the body is popped
@@ -178,85 +182,82 @@ module _ {b actions gotos input stack output old : List ℕ} {states : ℕ} {run
         → within (lent zero stack output) (doing (grammar_of b) (tables_in b states actions gotos) (Action.reduce p) (at s st rest out))
         ≡ within (lent zero stack output) (do-goto (tables_in b states actions gotos) (target w) p base under rest out)
     to-goto w q =
-        left b states actions gotos stack output p good n len s st rest out (base ∷ under) split
+        left b states actions gotos stack output p I.may n I.len s st rest out (base ∷ under) split
         ∙ ap (λ (x : ℕ). within (lent zero stack output) (do-goto (tables_in b states actions gotos) (target x) p base under rest out))
         (ap (λ (x : ℕ). get_or gotos (x * rules b + rule_of b p) 0) (sym base-is) ∙ sym q)
 
-    -- the goto word, as the code reads it
-    abbrev word : ℕ
-    word = get_or gotos (get_or stack (run.height - n - 1) 0 * rules b + rule_of b p) 0
+    module _ (word : ℕ) (read : word ≡ get_or gotos (get_or stack (run.height - n - 1) 0 * rules b + rule_of b p) 0) where
+      nowhere : ((e : ℕ) → state_in states word ≡ Some e → ⊥) → Reduced b states actions gotos input run (at s st rest out) stack output old p (Err BadTable) stack output
+      nowhere e =
+          stays R Why.bad _
+          (to-goto word read ∙ ap (within (lent zero stack output)) (goto-bad (tables_in b states actions gotos) p base under rest out word e)) _ refl
 
-    nowhere : up_to states word ≡ 0 → Reduced b states actions gotos input run (at s st rest out) stack output old p (Refused 17) stack output
-    nowhere e =
-        stays R Why.bad _
-        (to-goto word refl ∙ ap (within (lent zero stack output)) (goto-bad (tables_in b states actions gotos) p base under rest out word e)) _ refl
+      module _ (e : ℕ) (is : Some e ≡ state_in states word) where
+        abbrev after : Config
+        after = at e (base ∷ under) rest (out ++ p ∷ [])
 
-    module _ (e : ℕ) (is : e ≡ up_to states word) (nz : e ≡ 0 → ⊥) where
-      abbrev after : Config
-      after = at (e - 1) (base ∷ under) rest (out ++ p ∷ [])
+        to-fits : within (lent zero stack output) (doing (grammar_of b) (tables_in b states actions gotos) (Action.reduce p) (at s st rest out))
+            ≡ fits (leb (length (out ++ p ∷ [])) (length output)) (leb (suc (suc (length under))) (length stack)) after
+        to-fits =
+            to-goto word read
+            ∙ ap (within (lent zero stack output)) (goto-good (tables_in b states actions gotos) p base under rest out word e is).1
 
-      to-fits : within (lent zero stack output) (doing (grammar_of b) (tables_in b states actions gotos) (Action.reduce p) (at s st rest out))
-          ≡ fits (leb (length (out ++ p ∷ [])) (length output)) (leb (suc (suc (length under))) (length stack)) after
-      to-fits =
-          to-goto word refl
-          ∙ ap (within (lent zero stack output)) (goto-good (tables_in b states actions gotos) p base under rest out word e is nz).1
+        out-length : length (out ++ p ∷ []) ≡ run.k + 1
+        out-length = omega (arith, length-append out (p ∷ []), k-is R)
 
-      out-length : length (out ++ p ∷ []) ≡ run.k + 1
-      out-length = omega (arith, length-append out (p ∷ []), k-is R)
+        full-output : length output ≤ run.k → Reduced b states actions gotos input run (at s st rest out) stack output old p (Err OutputRoom) stack output
+        full-output h =
+            stays R Why.output-room _
+            (to-fits ∙ room-output (leb (length (out ++ p ∷ [])) (length output)) (leb (suc (suc (length under))) (length stack)) after
+            (lt-leb (length (out ++ p ∷ [])) (length output) (omega (arith, out-length)))) _ refl
 
-      full-output : length output ≤ run.k → Reduced b states actions gotos input run (at s st rest out) stack output old p (Refused 15) stack output
-      full-output h =
-          stays R Why.output-room _
-          (to-fits ∙ room-output (leb (length (out ++ p ∷ [])) (length output)) (leb (suc (suc (length under))) (length stack)) after
-          (lt-leb (length (out ++ p ∷ [])) (length output) (omega (arith, out-length)))) _ refl
+        module _ (l : run.k < length output) where
+          full-stack : length stack ≤ run.height - n → Reduced b states actions gotos input run (at s st rest out) stack output old p (Err StackRoom) stack output
+          full-stack h =
+              stays R Why.stack-room _
+              (to-fits ∙ room-stack (leb (length (out ++ p ∷ [])) (length output)) (leb (suc (suc (length under))) (length stack)) after
+              (le-leb (length (out ++ p ∷ [])) (length output) (omega (arith, out-length)))
+              (lt-leb (suc (suc (length under))) (length stack) (omega (arith, under-length)))) _ refl
 
-      module _ (l : run.k < length output) where
-        full-stack : length stack ≤ run.height - n → Reduced b states actions gotos input run (at s st rest out) stack output old p (Refused 14) stack output
-        full-stack h =
-            stays R Why.stack-room _
-            (to-fits ∙ room-stack (leb (length (out ++ p ∷ [])) (length output)) (leb (suc (suc (length under))) (length stack)) after
-            (le-leb (length (out ++ p ∷ [])) (length output) (omega (arith, out-length)))
-            (lt-leb (suc (suc (length under))) (length stack) (omega (arith, under-length)))) _ refl
+          -- the stack after the pops and the goto
+          pops : cleared (run.height - n) run.height stack ≡ pad (length stack) (reverse (base ∷ under))
+          pops =
+              ap (cleared (run.height - n) run.height) (R.lies.stack_is ∙ ap (pad (length stack)) (popped (s ∷ st) n base under split))
+              ∙ pop-clear (length stack) (run.height - n) run.height (reverse (base ∷ under)) (reverse (take n (s ∷ st)))
+              (length-reverse (base ∷ under) ∙ omega (arith, under-length))
+              (ap length (sym (popped (s ∷ st) n base under split)) ∙ length-reverse (s ∷ st) ∙ sym (height-is R))
+              (omega (arith, height-is R, R.lies.stack-fits))
 
-        -- the stack after the pops and the goto
-        pops : cleared (run.height - n) run.height stack ≡ pad (length stack) (reverse (base ∷ under))
-        pops =
-            ap (cleared (run.height - n) run.height) (R.lies.stack_is ∙ ap (pad (length stack)) (popped (s ∷ st) n base under split))
-            ∙ pop-clear (length stack) (run.height - n) run.height (reverse (base ∷ under)) (reverse (take n (s ∷ st)))
-            (length-reverse (base ∷ under) ∙ omega (arith, under-length))
-            (ap length (sym (popped (s ∷ st) n base under split)) ∙ length-reverse (s ∷ st) ∙ sym (height-is R))
-            (omega (arith, height-is R, R.lies.stack-fits))
-
-        went : (stack'' stack' output' : List ℕ) → stack'' ≡ cleared (run.height - n) run.height stack → length stack'' ≡ length stack
-            → run.height - n < length stack
-            → stack' ≡ set stack'' (run.height - n) (e - 1) → output' ≡ set output run.k p
-            → Reduced b states actions gotos input run (at s st rest out) stack output old p
-            (On (record { at = run.at; k = run.k + 1; steps = run.steps + 1; height = run.height - n + 1 })) stack' output'
-        went stack'' stack' output' q z h f g =
-            goes_on R after _
-            (to-fits ∙ room-both (leb (length (out ++ p ∷ [])) (length output)) (leb (suc (suc (length under))) (length stack)) after
-            (le-leb (length (out ++ p ∷ [])) (length output) (omega (arith, out-length)))
-            (le-leb (suc (suc (length under))) (length stack) (omega (arith, under-length)))) _
-            (ap {B = Step} On (run_is (ap (λ (r : Run). r.at) R.run_is) (sym out-length) (add-one run.steps) (omega (arith, under-length)))) _ _
-            record {
-              stack_is =
-                  f
-                  ∙ store-top stack'' (reverse (base ∷ under)) (run.height - n) (e - 1)
-                  (q ∙ pops ∙ ap (λ (m : ℕ). pad m (reverse (base ∷ under))) (sym z)) (length-reverse (base ∷ under) ∙ omega (arith, under-length)) (omega (arith, z))
-                  ∙ ap (pad (length (set stack'' (run.height - n) (e - 1)))) (sym (reverse-cons (e - 1) (base ∷ under)))
-                  ∙ ap (λ (m : ℕ). pad m (reverse ((e - 1) ∷ base ∷ under))) (ap length (sym f));
-              stack-fits = omega (arith, under-length, ap length f, length-set stack'' (run.height - n) (e - 1), z);
-              output-is =
-                  g ∙ ap (λ (t : List ℕ). set t run.k p) R.lies.output-is
-                  ∙ out-more out old run.k p (k-is R) (omega (arith, output-length R.lies));
-              output-fits = omega (arith, out-length, output-length R.lies);
-              taken = R.lies.taken;
-              input-is = R.lies.input-is;
-              known =
-                  λ x m.
-                  ⊎_elim (λ (y : x ≡ e - 1). subst (λ (i : ℕ). i < states) (sym y) (goto-good (tables_in b states actions gotos) p base under rest out word e is nz).0)
-                  (λ k. R.lies.known x (drop-within n (s ∷ st) (subst (λ (t : List ℕ). Memᴰ x t) (sym split) k))) (Memᴰ.cases_cons m);
-            }
+          went : (stack'' stack' output' : List ℕ) → stack'' ≡ cleared (run.height - n) run.height stack → length stack'' ≡ length stack
+              → run.height - n < length stack
+              → stack' ≡ set stack'' (run.height - n) e → output' ≡ set output run.k p
+              → Reduced b states actions gotos input run (at s st rest out) stack output old p
+              (Ok (On (record { at = run.at; k = run.k + 1; steps = run.steps + 1; height = run.height - n + 1 }))) stack' output'
+          went stack'' stack' output' q z h f g =
+              goes_on R after _
+              (to-fits ∙ room-both (leb (length (out ++ p ∷ [])) (length output)) (leb (suc (suc (length under))) (length stack)) after
+              (le-leb (length (out ++ p ∷ [])) (length output) (omega (arith, out-length)))
+              (le-leb (suc (suc (length under))) (length stack) (omega (arith, under-length)))) _
+              (run_is (ap (λ (r : Run). r.at) R.run_is) (sym out-length) (add-one run.steps) (omega (arith, under-length))) _ _
+              record {
+                stack_is =
+                    f
+                    ∙ store-top stack'' (reverse (base ∷ under)) (run.height - n) e
+                    (q ∙ pops ∙ ap (λ (m : ℕ). pad m (reverse (base ∷ under))) (sym z)) (length-reverse (base ∷ under) ∙ omega (arith, under-length)) (omega (arith, z))
+                    ∙ ap (pad (length (set stack'' (run.height - n) e))) (sym (reverse-cons e (base ∷ under)))
+                    ∙ ap (λ (m : ℕ). pad m (reverse (e ∷ base ∷ under))) (ap length (sym f));
+                stack-fits = omega (arith, under-length, ap length f, length-set stack'' (run.height - n) e, z);
+                output-is =
+                    g ∙ ap (λ (t : List ℕ). set t run.k p) R.lies.output-is
+                    ∙ out-more out old run.k p (k-is R) (omega (arith, output-length R.lies));
+                output-fits = omega (arith, out-length, output-length R.lies);
+                taken = R.lies.taken;
+                input-is = R.lies.input-is;
+                known =
+                    λ x m.
+                    ⊎_elim (λ (y : x ≡ e). subst (λ (i : ℕ). i < states) (sym y) (goto-good (tables_in b states actions gotos) p base under rest out word e is).0)
+                    (λ k. R.lies.known x (drop-within n (s ∷ st) (subst (λ (t : List ℕ). Memᴰ x t) (sym split) k))) (Memᴰ.cases_cons m);
+              }
 
   module _ (c : Config) (R : Ready b states actions gotos input run stack output old c) (deep : n < run.height) where
     -- the state that the goto is read for is one
@@ -267,28 +268,32 @@ module _ {b actions gotos input stack output old : List ℕ} {states : ℕ} {run
         go (at s st rest out) Q = subst (λ (i : ℕ). i < states) (sym (base-is s st rest out Q deep)) (base-known s st rest out Q deep)
 
   -- 17: no goto to a state
-  pub reduce-nowhere : (c : Config) → Ready b states actions gotos input run stack output old c → n < run.height → (e : ℕ)
-      → e ≡ up_to states (get_or gotos (get_or stack (run.height - n - 1) 0 * rules b + rule_of b p) 0) → e ≡ 0
-      → Reduced b states actions gotos input run c stack output old p (Refused 17) stack output
-  reduce-nowhere (at s st rest out) R deep e is z = nowhere s st rest out R deep (sym is ∙ z)
+  pub reduce-nowhere : (c : Config) → Ready b states actions gotos input run stack output old c → n < run.height
+      → (w : ℕ) → w ≡ get_or gotos (get_or stack (run.height - n - 1) 0 * rules b + rule_of b p) 0
+      → ((e : ℕ) → state_in states w ≡ Some e → ⊥)
+      → Reduced b states actions gotos input run c stack output old p (Err BadTable) stack output
+  reduce-nowhere (at s st rest out) R deep w r is = nowhere s st rest out R deep w r is
 
   -- 15
-  pub reduce-full-output : (c : Config) → Ready b states actions gotos input run stack output old c → n < run.height → (e : ℕ)
-      → e ≡ up_to states (get_or gotos (get_or stack (run.height - n - 1) 0 * rules b + rule_of b p) 0) → (e ≡ 0 → ⊥) → length output ≤ run.k
-      → Reduced b states actions gotos input run c stack output old p (Refused 15) stack output
-  reduce-full-output (at s st rest out) R deep e is nz h = full-output s st rest out R deep e is nz h
+  pub reduce-full-output : (c : Config) → Ready b states actions gotos input run stack output old c → n < run.height
+      → (w : ℕ) → w ≡ get_or gotos (get_or stack (run.height - n - 1) 0 * rules b + rule_of b p) 0
+      → (e : ℕ) → Some e ≡ state_in states w → length output ≤ run.k
+      → Reduced b states actions gotos input run c stack output old p (Err OutputRoom) stack output
+  reduce-full-output (at s st rest out) R deep w r e is h = full-output s st rest out R deep w r e is h
 
   -- 14
-  pub reduce-full-stack : (c : Config) → Ready b states actions gotos input run stack output old c → n < run.height → (e : ℕ)
-      → e ≡ up_to states (get_or gotos (get_or stack (run.height - n - 1) 0 * rules b + rule_of b p) 0) → (e ≡ 0 → ⊥) → run.k < length output
+  pub reduce-full-stack : (c : Config) → Ready b states actions gotos input run stack output old c → n < run.height
+      → (w : ℕ) → w ≡ get_or gotos (get_or stack (run.height - n - 1) 0 * rules b + rule_of b p) 0
+      → (e : ℕ) → Some e ≡ state_in states w → run.k < length output
       → length stack ≤ run.height - n
-      → Reduced b states actions gotos input run c stack output old p (Refused 14) stack output
-  reduce-full-stack (at s st rest out) R deep e is nz l h = full-stack s st rest out R deep e is nz l h
+      → Reduced b states actions gotos input run c stack output old p (Err StackRoom) stack output
+  reduce-full-stack (at s st rest out) R deep w r e is l h = full-stack s st rest out R deep w r e is l h
 
-  pub reduce-goes : (c : Config) → Ready b states actions gotos input run stack output old c → n < run.height → (e : ℕ)
-      → e ≡ up_to states (get_or gotos (get_or stack (run.height - n - 1) 0 * rules b + rule_of b p) 0) → (e ≡ 0 → ⊥) → run.k < length output
+  pub reduce-goes : (c : Config) → Ready b states actions gotos input run stack output old c → n < run.height
+      → (w : ℕ) → w ≡ get_or gotos (get_or stack (run.height - n - 1) 0 * rules b + rule_of b p) 0
+      → (e : ℕ) → Some e ≡ state_in states w → run.k < length output
       → run.height - n < length stack
       → (stack'' : List ℕ) → stack'' ≡ cleared (run.height - n) run.height stack → length stack'' ≡ length stack
       → Reduced b states actions gotos input run c stack output old p
-      (On (record { at = run.at; k = run.k + 1; steps = run.steps + 1; height = run.height - n + 1 })) (set stack'' (run.height - n) (e - 1)) (set output run.k p)
-  reduce-goes (at s st rest out) R deep e is nz l h stack'' q z = went s st rest out R deep e is nz l stack'' _ _ q z h refl refl
+      (Ok (On (record { at = run.at; k = run.k + 1; steps = run.steps + 1; height = run.height - n + 1 }))) (set stack'' (run.height - n) e) (set output run.k p)
+  reduce-goes (at s st rest out) R deep w r e is l h stack'' q z = went s st rest out R deep w r e is l stack'' _ _ q z h refl refl

@@ -6,6 +6,7 @@ use Prim.Native.Nat.{ℕ, zero, suc, ◌-◌, ◌≤◌, ◌<◌}
 use native.Mathlib.Omega.{arith}
 use lib.Dec.{leb}
 use lib.ListN.{length, replicate}
+use Rattle.std.specs.Prelude.{Result, Ok, Err}
 use Rattle.knuth.specs.Machine.{Config, at, Outcome, goes, accepted, rejected, bad-table, next}
 use Rattle.knuth.specs.Limits as theory
 use Rattle.knuth.specs.Limits.{Why, Ended, ended, moves, stops, fits, within, machine, height, outs}
@@ -16,31 +17,13 @@ use Rattle.pager.specs.Memory.{pad}
 use Rattle.statetable.specs.Read.{tables_in}
 use Rattle.machine.specs.Limits.{STEPS}
 use Rattle.machine.specs.Memory.{Lies, slots}
-use Rattle.machine.specs.Moves.{lent, run_of, counted, Ready, Stepped, stands, ending, answer_to, number_of}
+use Rattle.machine.specs.Moves.{lent, run_of, counted, Ready, Stepped, stands, ending, answer_to, step_of, refusal_number}
 use Rattle.machine.specs.Call.{called, machine_of, Begun, Verdict, verdict, told, stack_of, output_of}
 use Rattle.machine.specs.declared.answers.Run.{Run}
 use Rattle.machine.specs.declared.answers.Step.{Step}
-use Rattle.machine.specs.declared.answers.Step.TheVariants.{On, Accept, Reject, Refused}
+use Rattle.machine.specs.declared.answers.Step.TheVariants.{On, Accept, Reject}
+use Rattle.machine.specs.declared.answers.StepRefusal.{StepRefusal}
 use Rattle.machine.proofs.Standing.{run_is}
-
--- ---- answers of a step, told apart
-abbrev kind : Step → ℕ
-kind (On r) = 0
-kind (Accept r) = 1
-kind (Reject r) = 2
-kind (Refused n) = 3
-
-abbrev run_in : Run → Step → Run
-run_in d (On r) = r
-run_in d (Accept r) = r
-run_in d (Reject r) = r
-run_in d (Refused n) = d
-
-abbrev number_in : Step → ℕ
-number_in (On r) = 0
-number_in (Accept r) = 0
-number_in (Reject r) = 0
-number_in (Refused n) = n
 
 -- rooms of the same sizes
 same-room : (k s o k' s' o' : ℕ) → s ≡ s' → o ≡ o' → (x : Outcome)
@@ -142,7 +125,7 @@ module _ {block actions gotos input stack₀ output₀ stack output : List ℕ} 
       (I.so_far ∙ ap (λ (k : ℕ). theory.run (grammar_of block) (tables_in block states actions gotos) (lent limit stack₀ output₀) k run.steps I.config) z)
       I.ready.lies I.stack-size run I.ready.run_is
 
-  module _ (less : run.steps < limit) (r : Step) (stack' output' : List ℕ)
+  module _ (less : run.steps < limit) (r : Result Step StepRefusal) (stack' output' : List ℕ)
       (S : Stepped states input run I.config (within (lent zero stack output) (next (grammar_of block) (tables_in block states actions gotos) I.config)) r stack' output' output₀)
       (zs : length stack' ≡ length stack) (zo : length output' ≡ length output) where
     -- the theory's step
@@ -163,28 +146,29 @@ module _ {block actions gotos input stack₀ output₀ stack output : List ℕ} 
     lies_at : (s : theory.Step) → made ≡ s → Lies states input stack' output' output₀ (stands I.config s)
     lies_at s e = subst (λ (x : theory.Step). Lies states input stack' output' output₀ (stands I.config x)) e S.lies
 
-    answers : (s : theory.Step) → made ≡ s → r ≡ answer_to (length input) run s
+    answers : (s : theory.Step) → made ≡ s → step_of r ≡ answer_to (length input) run s
     answers s e = S.answer ∙ ap (answer_to (length input) run) e
 
     finish : (w : Why) → made ≡ stops w → (m : Run) → m ≡ run_of (length input) (theory.counted w run.steps) I.config
         → Ends block states actions gotos input limit stack₀ output₀ (is (verdict w, m)) stack' output'
     finish w e m q = ends w (theory.counted w run.steps) stack' output' (one-turn ∙ ap afterwards e) (lies_at (stops w) e) (zs ∙ I.stack-size) m q
 
-    pub running-on : (m : Run) → r ≡ On m → Running block states actions gotos input limit stack₀ output₀ stack' output' m × (m.steps ≡ suc run.steps)
+    pub running-on : (m : Run) → r ≡ Ok (On m) → Running block states actions gotos input limit stack₀ output₀ stack' output' m × (m.steps ≡ suc run.steps)
     running-on m q = go made refl
       where
-        no : (w : Why) → On m ≡ ending w run → ⊥
-        no Why.accept e = let k = ap kind e in omega arith
-        no Why.reject e = let k = ap kind e in omega arith
-        no Why.bad e = let k = ap kind e in omega arith
-        no Why.stack-room e = let k = ap kind e in omega arith
-        no Why.output-room e = let k = ap kind e in omega arith
-        no Why.out-of-steps e = let k = ap kind e in omega arith
+        no : (w : Why) → Ok (On m) ≡ ending w run → ⊥
+        no Why.accept e = cc
+        no Why.reject e = cc
+        no Why.bad e = cc
+        no Why.stack-room e = cc
+        no Why.output-room e = cc
+        no Why.out-of-steps e = cc
 
         go : (s : theory.Step) → made ≡ s → Running block states actions gotos input limit stack₀ output₀ stack' output' m × (m.steps ≡ suc run.steps)
-        go (stops w) e = absurd (no w (sym q ∙ answers (stops w) e))
+        go (stops w) e = absurd (no w (sym (ap step_of q) ∙ answers (stops w) e))
         go (moves c') e =
-            let f : m ≡ run_of (length input) (suc run.steps) c' = ap (run_in m) (sym q ∙ answers (moves c') e) in
+            let a = sym (ap step_of q) ∙ answers (moves c') e in
+            let f : m ≡ run_of (length input) (suc run.steps) c' = cc in
             let g : m.steps ≡ suc run.steps = ap (λ (x : Run). x.steps) f in (
               record {
                 config = c';
@@ -210,46 +194,54 @@ module _ {block actions gotos input stack₀ output₀ stack output : List ℕ} 
               g,
             )
 
-    pub running-accept : (m : Run) → r ≡ Accept m → Ends block states actions gotos input limit stack₀ output₀ (is (Verdict.accept, m)) stack' output'
+    pub running-accept : (m : Run) → r ≡ Ok (Accept m) → Ends block states actions gotos input limit stack₀ output₀ (is (Verdict.accept, m)) stack' output'
     running-accept m q = go made refl
       where
         go : (s : theory.Step) → made ≡ s → Ends block states actions gotos input limit stack₀ output₀ (is (Verdict.accept, m)) stack' output'
-        go (moves c') e = let k = ap kind (sym q ∙ answers (moves c') e) in absurd (omega arith)
-        go (stops Why.accept) e = finish Why.accept e m (ap (run_in m) (sym q ∙ answers (stops Why.accept) e) ∙ ap counted I.ready.run_is)
-        go (stops Why.reject) e = let k = ap kind (sym q ∙ answers (stops Why.reject) e) in absurd (omega arith)
-        go (stops Why.bad) e = let k = ap kind (sym q ∙ answers (stops Why.bad) e) in absurd (omega arith)
-        go (stops Why.stack-room) e = let k = ap kind (sym q ∙ answers (stops Why.stack-room) e) in absurd (omega arith)
-        go (stops Why.output-room) e = let k = ap kind (sym q ∙ answers (stops Why.output-room) e) in absurd (omega arith)
-        go (stops Why.out-of-steps) e = let k = ap kind (sym q ∙ answers (stops Why.out-of-steps) e) in absurd (omega arith)
+        go (moves c') e = let a = sym (ap step_of q) ∙ answers (moves c') e in cc
+        go (stops Why.accept) e =
+            let a = sym (ap step_of q) ∙ answers (stops Why.accept) e in
+            let f : m ≡ counted run = cc in
+            finish Why.accept e m (f ∙ ap counted I.ready.run_is)
+        go (stops Why.reject) e = let a = sym (ap step_of q) ∙ answers (stops Why.reject) e in cc
+        go (stops Why.bad) e = let a = sym (ap step_of q) ∙ answers (stops Why.bad) e in cc
+        go (stops Why.stack-room) e = let a = sym (ap step_of q) ∙ answers (stops Why.stack-room) e in cc
+        go (stops Why.output-room) e = let a = sym (ap step_of q) ∙ answers (stops Why.output-room) e in cc
+        go (stops Why.out-of-steps) e = let a = sym (ap step_of q) ∙ answers (stops Why.out-of-steps) e in cc
 
-    pub running-reject : (m : Run) → r ≡ Reject m → Ends block states actions gotos input limit stack₀ output₀ (is (Verdict.reject, m)) stack' output'
+    pub running-reject : (m : Run) → r ≡ Ok (Reject m) → Ends block states actions gotos input limit stack₀ output₀ (is (Verdict.reject, m)) stack' output'
     running-reject m q = go made refl
       where
         go : (s : theory.Step) → made ≡ s → Ends block states actions gotos input limit stack₀ output₀ (is (Verdict.reject, m)) stack' output'
-        go (moves c') e = let k = ap kind (sym q ∙ answers (moves c') e) in absurd (omega arith)
-        go (stops Why.accept) e = let k = ap kind (sym q ∙ answers (stops Why.accept) e) in absurd (omega arith)
-        go (stops Why.reject) e = finish Why.reject e m (ap (run_in m) (sym q ∙ answers (stops Why.reject) e) ∙ ap counted I.ready.run_is)
-        go (stops Why.bad) e = let k = ap kind (sym q ∙ answers (stops Why.bad) e) in absurd (omega arith)
-        go (stops Why.stack-room) e = let k = ap kind (sym q ∙ answers (stops Why.stack-room) e) in absurd (omega arith)
-        go (stops Why.output-room) e = let k = ap kind (sym q ∙ answers (stops Why.output-room) e) in absurd (omega arith)
-        go (stops Why.out-of-steps) e = let k = ap kind (sym q ∙ answers (stops Why.out-of-steps) e) in absurd (omega arith)
+        go (moves c') e = let a = sym (ap step_of q) ∙ answers (moves c') e in cc
+        go (stops Why.accept) e = let a = sym (ap step_of q) ∙ answers (stops Why.accept) e in cc
+        go (stops Why.reject) e =
+            let a = sym (ap step_of q) ∙ answers (stops Why.reject) e in
+            let f : m ≡ counted run = cc in
+            finish Why.reject e m (f ∙ ap counted I.ready.run_is)
+        go (stops Why.bad) e = let a = sym (ap step_of q) ∙ answers (stops Why.bad) e in cc
+        go (stops Why.stack-room) e = let a = sym (ap step_of q) ∙ answers (stops Why.stack-room) e in cc
+        go (stops Why.output-room) e = let a = sym (ap step_of q) ∙ answers (stops Why.output-room) e in cc
+        go (stops Why.out-of-steps) e = let a = sym (ap step_of q) ∙ answers (stops Why.out-of-steps) e in cc
 
     -- a refused step
-    pub running-refused : (n : ℕ) → r ≡ Refused n → Ends block states actions gotos input limit stack₀ output₀ (is (Verdict.stopped n, run)) stack' output'
+    pub running-refused : (n : StepRefusal) → r ≡ Err n → Ends block states actions gotos input limit stack₀ output₀ (is (Verdict.stopped (refusal_number n), run)) stack' output'
     running-refused n q = go made refl
       where
-        tell : (w : Why) → made ≡ stops w → verdict w ≡ Verdict.stopped (number_of w) → theory.counted w run.steps ≡ run.steps → ending w run ≡ Refused (number_of w)
-            → Ends block states actions gotos input limit stack₀ output₀ (is (Verdict.stopped n, run)) stack' output'
-        tell w e v k f =
+        tell : (w : Why) → made ≡ stops w → (k : ℕ) → verdict w ≡ Verdict.stopped k → theory.counted w run.steps ≡ run.steps → ending w run ≡ Err k
+            → Ends block states actions gotos input limit stack₀ output₀ (is (Verdict.stopped (refusal_number n), run)) stack' output'
+        tell w e k v d f =
+            let a = sym (ap step_of q) ∙ answers (stops w) e ∙ f in
+            let same : k ≡ refusal_number n = cc in
             subst (λ (x : Verdict). Ends block states actions gotos input limit stack₀ output₀ (is (x, run)) stack' output')
-            (v ∙ ap Verdict.stopped (sym (ap number_in (sym q ∙ answers (stops w) e ∙ f))))
-            (finish w e run (I.ready.run_is ∙ ap (λ (j : ℕ). run_of (length input) j I.config) (sym k)))
+            (v ∙ ap Verdict.stopped same)
+            (finish w e run (I.ready.run_is ∙ ap (λ (j : ℕ). run_of (length input) j I.config) (sym d)))
 
-        go : (s : theory.Step) → made ≡ s → Ends block states actions gotos input limit stack₀ output₀ (is (Verdict.stopped n, run)) stack' output'
-        go (moves c') e = let k = ap kind (sym q ∙ answers (moves c') e) in absurd (omega arith)
-        go (stops Why.accept) e = let k = ap kind (sym q ∙ answers (stops Why.accept) e) in absurd (omega arith)
-        go (stops Why.reject) e = let k = ap kind (sym q ∙ answers (stops Why.reject) e) in absurd (omega arith)
-        go (stops Why.bad) e = tell Why.bad e refl refl refl
-        go (stops Why.stack-room) e = tell Why.stack-room e refl refl refl
-        go (stops Why.output-room) e = tell Why.output-room e refl refl refl
-        go (stops Why.out-of-steps) e = tell Why.out-of-steps e refl refl refl
+        go : (s : theory.Step) → made ≡ s → Ends block states actions gotos input limit stack₀ output₀ (is (Verdict.stopped (refusal_number n), run)) stack' output'
+        go (moves c') e = let a = sym (ap step_of q) ∙ answers (moves c') e in cc
+        go (stops Why.accept) e = let a = sym (ap step_of q) ∙ answers (stops Why.accept) e in cc
+        go (stops Why.reject) e = let a = sym (ap step_of q) ∙ answers (stops Why.reject) e in cc
+        go (stops Why.bad) e = tell Why.bad e _ refl refl refl
+        go (stops Why.stack-room) e = tell Why.stack-room e _ refl refl refl
+        go (stops Why.output-room) e = tell Why.output-room e _ refl refl refl
+        go (stops Why.out-of-steps) e = tell Why.out-of-steps e _ refl refl refl

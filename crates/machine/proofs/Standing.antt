@@ -5,14 +5,16 @@ use Prim.Native.Nat.{ℕ, suc, ◌+◌, ◌≤◌}
 use native.Mathlib.Omega.{arith}
 use lib.ListN.{length, drop, length-append, length-drop}
 use lib.Seq.{drop_at}
+use Rattle.std.specs.Prelude.{Result, Ok}
 use Rattle.knuth.specs.Machine.{Config, at}
 use Rattle.knuth.specs.Limits as theory
 use Rattle.knuth.specs.Limits.{Why, height, outs, rest-of, moves, stops}
 use Rattle.machine.specs.Memory.{Lies}
-use Rattle.machine.specs.Moves.{run_of, Ready, Stepped, stands, ending, answer_to}
+use Rattle.machine.specs.Moves.{run_of, Ready, Stepped, step_of, stands, ending, answer_to}
 use Rattle.machine.specs.declared.answers.Run.{Run}
 use Rattle.machine.specs.declared.answers.Step.{Step}
 use Rattle.machine.specs.declared.answers.Step.TheVariants.{On}
+use Rattle.machine.specs.declared.answers.StepRefusal.{StepRefusal}
 
 -- the numbers of a run, one by one
 pub run_is : {a a' k k' s s' h h' : ℕ} → a ≡ a' → k ≡ k' → s ≡ s' → h ≡ h'
@@ -52,17 +54,17 @@ module _ {b actions gotos input stack output old : List ℕ} {states : ℕ} {run
       go (at s st rest out) = omega arith
 
   -- a step that ends the run, or is refused
-  pub stays : (w : Why) (s : theory.Step) → s ≡ stops w → (r : Step) → r ≡ ending w run → Stepped states input run c s r stack output old
+  pub stays : (w : Why) (s : theory.Step) → s ≡ stops w → (r : Result Step StepRefusal) → step_of r ≡ ending w run → Stepped states input run c s r stack output old
   stays w s e r q =
       record {
         answer = q ∙ ap (answer_to (length input) run) (sym e);
         lies = subst (λ (x : theory.Step). Lies states input stack output old (stands c x)) (sym e) R.lies;
       }
 
-  pub goes_on : (c' : Config) (s : theory.Step) → s ≡ moves c' → (r : Step) → r ≡ On (run_of (length input) (suc run.steps) c') → (stack' output' : List ℕ)
-      → Lies states input stack' output' old c' → Stepped states input run c s r stack' output' old
-  goes_on c' s e r q stack' output' L =
+  pub goes_on : (c' : Config) (s : theory.Step) → s ≡ moves c' → (m : Run) → m ≡ run_of (length input) (suc run.steps) c' → (stack' output' : List ℕ)
+      → Lies states input stack' output' old c' → Stepped states input run c s (Ok (On m)) stack' output' old
+  goes_on c' s e m q stack' output' L =
       record {
-        answer = q ∙ ap (answer_to (length input) run) (sym e);
+        answer = ap (λ (x : Run). step_of (Ok (On x))) q ∙ ap (answer_to (length input) run) (sym e);
         lies = subst (λ (x : theory.Step). Lies states input stack' output' old (stands c x)) (sym e) L;
       }

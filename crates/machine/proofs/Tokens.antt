@@ -6,18 +6,19 @@ use mathlib.Core.Logic.{◌≢◌, ⊎_elim}
 use mathlib.Core.Option.{Option, none, some}
 use mathlib.Core.Path.{◌≡◌, refl, sym, ap, ◌∙◌, subst}
 use Prim.Native.Nat.{ℕ, suc, ◌+◌, ◌<◌, ◌≤◌}
-use native.Mathlib.Decide.{dec_lt}
-use native.Mathlib.Omega.{arith}
-use borrow.Author.Tests.{leb-false, eqb-false, le-leb, lt-leb, eq-eqb, ne_eqb}
+use native.Mathlib.Numerals.{add-one}
+use borrow.Author.Tests.{leb-false, eqb-false, lt-leb, ne_eqb}
 use lib.Dec.{leb, eqb}
 use lib.ListN.{length, get_or, drop, drop_of_length-le}
 use lib.Seq.{drop-cons}
+use Rattle.std.specs.Prelude as std
+use Rattle.std.specs.Prelude.{cond, MatchOption, position}
+use Rattle.std.specs.List.{position_from}
+use Rattle.std.proofs.lemmas.Iterator.Adapters.{position_from-zero}
 use Rattle.knuth.specs.Grammar.{Grammar}
 use Rattle.knuth.specs.Machine.{look, Input}
 use Rattle.block.specs.Block.{tokens, end_token_of}
 use Rattle.block.specs.Grammar.{grammar_of}
-use Rattle.block.specs.Answer.{sizes_of}
-use Rattle.block.specs.declared.check.Sizes.{Sizes}
 use Rattle.pager.specs.Lists.{find}
 use Rattle.machine.specs.Call.{bad_token}
 
@@ -29,24 +30,9 @@ pub look-end : (G : Grammar) (w : List ℕ) (i : ℕ) → length w ≤ i → G.e
 look-end G w i l = ap (look G) (sym (drop_of_length-le w {i = i} l))
 
 -- ---- check 13, of one token
-module _ (b : List ℕ) (z : Sizes) (e : z ≡ sizes_of b) (t : ℕ) where
-  pub bad-high : z.tokens ≤ t → bad_token b t ≡ true
-  unfolding bad_token
-  bad-high h = ap (λ (x : Bool). x || eqb t (end_token_of b)) (le-leb (tokens b) t (subst (λ (y : Sizes). y.tokens ≤ t) e h))
-
-  pub bad-end : t ≡ z.end → bad_token b t ≡ true
-  unfolding bad_token
-  bad-end h = ap (λ (x : Bool). leb (tokens b) t || x) (eq-eqb t (end_token_of b) (h ∙ ap (λ (y : Sizes). y.end) e)) ∙ go (leb (tokens b) t)
-    where
-      go : (x : Bool) → (x || true) ≡ true
-      go true = refl
-      go false = refl
-
-  pub not-bad : t < z.tokens → (t ≡ z.end → ⊥) → bad_token b t ≡ false
-  unfolding bad_token
-  not-bad h d =
-      ap (λ (x : Bool). x || eqb t (end_token_of b)) (lt-leb (tokens b) t (subst (λ (y : Sizes). t < y.tokens) e h))
-      ∙ ne_eqb t (end_token_of b) (λ q. d (q ∙ ap (λ (y : Sizes). y.end) (sym e)))
+pub not-bad : (b : List ℕ) (t : ℕ) → t < tokens b → (t ≡ end_token_of b → ⊥) → bad_token b t ≡ false
+unfolding bad_token
+not-bad b t h d = ap (λ (x : Bool). x || eqb t (end_token_of b)) (lt-leb (tokens b) t h) ∙ ne_eqb t (end_token_of b) d
 
 -- ---- check 13, of the whole input
 fine : (b : List ℕ) (t : ℕ) → bad_token b t ≡ false → (t < tokens b) × (t ≢ end_token_of b)
@@ -75,7 +61,26 @@ none_found f n (x ∷ xs) e t m = go (λ q. none_found f (suc n) xs q t) (f x) r
 pub passed : (b w : List ℕ) → find (bad_token b) 0 w ≡ none → Input (grammar_of b) w
 passed b w e t m = fine b t (none_found (bad_token b) 0 w e t m)
 
--- no token before place i is bad, nor the one there
-pub none_before : (b w : List ℕ) (i : ℕ) → ((j : ℕ) → j < i → bad_token b (get_or w j 0) ≡ false) → bad_token b (get_or w i 0) ≡ false
-    → (j : ℕ) → j < i + 1 → bad_token b (get_or w j 0) ≡ false
-none_before b w i h e j l = elim (dec_lt j i) [ yes k ↦ h j k | no g ↦ subst (λ (n : ℕ). bad_token b (get_or w n 0) ≡ false) (let q : i ≡ j = omega arith in q) e ]
+-- the library's search and the definition's are one
+abbrev Searched : (ℕ → Bool) → ℕ → List ℕ → std.Option ℕ → Type 0
+Searched f n xs r = MatchOption r (find f n xs ≡ none) (λ i. find f n xs ≡ some i)
+
+from-place : (f : ℕ → Bool) (n : ℕ) (xs : List ℕ) → Searched f n xs (position_from f n xs)
+unfolding find
+from-place f n [] = refl
+from-place f n (x ∷ xs) = go (f x) (rw (add-one n) (from-place f (suc n) xs))
+  where
+    go : (y : Bool) → Searched f (suc n) xs (position_from f (n + 1) xs)
+        → MatchOption (cond y (std.Some n) (position_from f (n + 1) xs)) (◌≡◌ {A = Option ℕ} (elim y [ true ↦ some n | false ↦ find f (suc n) xs ]) none)
+        (λ i. ◌≡◌ {A = Option ℕ} (elim y [ true ↦ some n | false ↦ find f (suc n) xs ]) (some i))
+    go true h = refl
+    go false h = h
+
+searched : (f : ℕ → Bool) (xs : List ℕ) → Searched f 0 xs (position f xs)
+searched f xs = subst (Searched f 0 xs) (sym (position_from-zero f xs)) (from-place f 0 xs)
+
+pub found_at : (f : ℕ → Bool) (xs : List ℕ) (i : ℕ) → std.Some i ≡ position f xs → find f 0 xs ≡ some i
+found_at f xs i e = subst (Searched f 0 xs) (sym e) (searched f xs)
+
+pub found_none : (f : ℕ → Bool) (xs : List ℕ) → std.None ≡ position f xs → find f 0 xs ≡ none
+found_none f xs e = subst (Searched f 0 xs) (sym e) (searched f xs)

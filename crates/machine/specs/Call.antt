@@ -1,5 +1,5 @@
 -- The call `run`: when it refuses, what it answers, and what stack and output hold then. Assumes nothing.
-use Rattle.std.specs.Prelude.{Bool, ◌||◌, cond, List, [], ◌∷◌, ◌≡◌, ℕ, ◌*◌, ◌≤◌, leb, eqb, length, replicate}
+use Rattle.std.specs.Prelude.{Bool, ◌||◌, cond, List, [], ◌∷◌, ◌≡◌, ℕ, ◌*◌, ◌≤◌, leb, eqb, length, replicate, Result, Ok, Err}
 use Rattle.std.proofs.Math.Option.{Option, none, some}
 use Rattle.knuth.specs.Machine.{Input}
 use Rattle.knuth.specs.Limits.{Why, Ended, ended, machine}
@@ -14,8 +14,14 @@ use Rattle.machine.specs.Limits.{INPUT, STEPS}
 use Rattle.machine.specs.Memory.{slots, reductions}
 use Rattle.machine.specs.Moves.{lent, run_of, number_of}
 use Rattle.machine.specs.declared.answers.Run.{Run}
-use Rattle.machine.specs.declared.answers.Ran.{Ran}
-use Rattle.machine.specs.declared.answers.Ran.TheVariants.{Accept, Reject, Stopped, Refused, BadToken}
+use Rattle.block.specs.Refused as block
+use Rattle.machine.specs.declared.ends.Stop.{Stop}
+use Rattle.machine.specs.declared.ends.Stop.TheVariants.{StackRoom, OutputRoom, StepLimit, BadTable}
+use Rattle.machine.specs.declared.ends.How.{How}
+use Rattle.machine.specs.declared.ends.How.TheVariants.{Accept, Reject, Stopped}
+use Rattle.machine.specs.declared.ends.Ended as declared
+use Rattle.machine.specs.declared.ends.RunRefusal.{RunRefusal}
+use Rattle.machine.specs.declared.ends.RunRefusal.TheVariants.{Block, RoomShort, BadToken}
 
 -- ---- what is lent and named
 pub record Call : Type 0 where
@@ -86,13 +92,28 @@ abbrev pub told : ℕ → Answer Ended → Answer (Verdict × Run)
 told n (is (ended why steps c)) = is (verdict why, run_of n steps c)
 told n (refused why) = refused why
 
+-- document 01's number of what stops a run
+abbrev pub stop_number : Stop → ℕ
+stop_number StackRoom = 14
+stop_number OutputRoom = 15
+stop_number StepLimit = 16
+stop_number BadTable = 17
+
+abbrev pub verdict_of : How → Verdict
+verdict_of Accept = Verdict.accept
+verdict_of Reject = Verdict.reject
+verdict_of (Stopped stop) = Verdict.stopped (stop_number stop)
+
+-- the values of a run that began
+abbrev pub ended_of : declared.Ended → Answer (Verdict × Run)
+ended_of e = is (verdict_of e.how, e.run)
+
 -- the values of an answer, or document 01's number of it, with the place for 13
-abbrev pub answer_of : Ran → Answer (Verdict × Run)
-answer_of (Accept run) = is (Verdict.accept, run)
-answer_of (Reject run) = is (Verdict.reject, run)
-answer_of (Stopped n run) = is (Verdict.stopped n, run)
-answer_of (Refused n) = refused (n ∷ [])
-answer_of (BadToken i) = refused (13 ∷ i ∷ [])
+abbrev pub answer_of : Result declared.Ended RunRefusal → Answer (Verdict × Run)
+answer_of (Ok e) = ended_of e
+answer_of (Err (Block refusal)) = refused (block.number_of refusal ∷ [])
+answer_of (Err RoomShort) = refused (7 ∷ [])
+answer_of (Err (BadToken place)) = refused (13 ∷ place ∷ [])
 
 -- ---- what stack and output hold at the end: 1 to 7 and 13 change nothing
 abbrev pub stack_of : Answer Ended → List ℕ → List ℕ

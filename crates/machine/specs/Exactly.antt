@@ -1,6 +1,6 @@
 -- What is claimed of the call `run` beyond its contract: no two outcomes meet it, nor `step`'s; its numbers and its count of steps are document 01's; and on the
 -- tables of a checked automaton it accepts exactly what is derivable. Assumes nothing.
-use Rattle.std.specs.Prelude.{List, [], ◌∷◌, reverse, ◌≢◌, ◌⊎◌, ◌≡◌, ℕ, suc, ◌+◌, ◌*◌, ◌-◌, ◌≤◌, ◌<◌, length}
+use Rattle.std.specs.Prelude.{List, [], ◌∷◌, reverse, ◌≢◌, ◌⊎◌, ◌≡◌, ℕ, suc, ◌+◌, ◌*◌, ◌-◌, ◌≤◌, ◌<◌, length, Result}
 use Rattle.knuth.specs.Derivation.{Derivation}
 use Rattle.knuth.specs.Tables.{Agree}
 use Rattle.knuth.specs.Automaton.{Automaton, tables}
@@ -21,31 +21,33 @@ use Rattle.machine.specs.Moves.{lent, Stepped}
 use Rattle.machine.specs.Call.{Call, run_call, told, answer_of, stack_of, output_of}
 use Rattle.machine.specs.declared.answers.Run.{Run}
 use Rattle.machine.specs.declared.answers.Step.{Step}
-use Rattle.machine.specs.declared.answers.Ran.{Ran}
+use Rattle.machine.specs.declared.answers.StepRefusal.{StepRefusal}
+use Rattle.machine.specs.declared.ends.Ended as declared
+use Rattle.machine.specs.declared.ends.RunRefusal.{RunRefusal}
 
 -- ---- one outcome
 -- an answer, a stack and an output that the contract allows
-pub record Allowed (a : Call) (r : Ran) (stack output : List ℕ) : Type 0 where
+pub record Allowed (a : Call) (r : Result declared.Ended RunRefusal) (stack output : List ℕ) : Type 0 where
   pub answer : answer_of r ≡ told (length a.input) (run_call a)
   pub stack_is : stack ≡ stack_of (run_call a) a.stack
   pub output-is : output ≡ output_of (run_call a) a.output
 
 abbrev pub ClaimOne : Type 0
 ClaimOne =
-    (a : Call) (r r' : Ran) (stack stack' output output' : List ℕ) → Allowed a r stack output → Allowed a r' stack' output'
+    (a : Call) (r r' : Result declared.Ended RunRefusal) (stack stack' output output' : List ℕ) → Allowed a r stack output → Allowed a r' stack' output'
     → (r ≡ r') × (stack ≡ stack') × (output ≡ output')
 
 -- the same of `step`, whose stack keeps its length
 abbrev pub ClaimOneStep : Type 0
 ClaimOneStep =
-    (states : ℕ) (input : List ℕ) (run : Run) (c : Config) (s : theory.Step) (r r' : Step) (stack stack' output output' old : List ℕ)
+    (states : ℕ) (input : List ℕ) (run : Run) (c : Config) (s : theory.Step) (r r' : Result Step StepRefusal) (stack stack' output output' old : List ℕ)
     → Stepped states input run c s r stack output old → Stepped states input run c s r' stack' output' old → length stack ≡ length stack'
     → (r ≡ r') × (stack ≡ stack') × (output ≡ output')
 
 -- a step that is refused, an accept and an error leave stack and output as they stood
 abbrev pub ClaimLeft : Type 0
 ClaimLeft =
-    (states : ℕ) (input : List ℕ) (run : Run) (c : Config) (why : Why) (r : Step) (stack stack' output output' old : List ℕ)
+    (states : ℕ) (input : List ℕ) (run : Run) (c : Config) (why : Why) (r : Result Step StepRefusal) (stack stack' output output' old : List ℕ)
     → Lies states input stack output old c → Stepped states input run c (stops why) r stack' output' old → length stack ≡ length stack'
     → (stack ≡ stack') × (output ≡ output')
 

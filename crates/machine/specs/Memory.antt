@@ -1,5 +1,5 @@
 -- A run as it lies in lent memory. Assumes nothing.
-use Rattle.std.specs.Prelude.{cond, ◌≡◌, ℕ, ◌-◌, ◌<◌, ◌≤◌, leb, length, take, drop, replicate}
+use Rattle.std.specs.Prelude.{cond, ◌≡◌, ℕ, zero, suc, ◌-◌, ◌<◌, ◌≤◌, ltb, length, take, drop, replicate, Option, Some, None}
 use mathlib.Core.List.{List, ◌∷◌, ◌++◌, reverse, Memᴰ}
 use Rattle.knuth.specs.Machine.{Config, at}
 use Rattle.knuth.specs.Limits.{height, outs, rest-of}
@@ -31,6 +31,7 @@ pub record Lies (states : ℕ) (input stack output old : List ℕ) (c : Config) 
 abbrev pub cleared : ℕ → ℕ → List ℕ → List ℕ
 cleared from to xs = take from xs ++ (replicate (to - from) 0 ++ drop to xs)
 
--- a goto word to one of n states, else 0
-abbrev pub up_to : ℕ → ℕ → ℕ
-up_to n e = cond (leb e n) e 0
+-- the state that a goto word goes to, of n states
+abbrev pub state_in : ℕ → ℕ → Option ℕ
+state_in n zero = None
+state_in n (suc s) = cond (ltb s n) (Some s) None

@@ -1,5 +1,5 @@
 -- What a step asks, what it answers and what it leaves: the theory's step, on lent words. Assumes nothing.
-use Rattle.std.specs.Prelude.{List, ◌≡◌, ℕ, suc, ◌*◌, ◌-◌, ◌^◌, ◌<◌, ◌≤◌, length}
+use Rattle.std.specs.Prelude.{List, ◌≡◌, ℕ, suc, ◌*◌, ◌-◌, ◌^◌, ◌<◌, ◌≤◌, length, Result, Ok, Err}
 use Rattle.knuth.specs.Grammar.{Grammar}
 use Rattle.knuth.specs.Tables.{Tables, Action}
 use Rattle.knuth.specs.Machine.{Config, at, Outcome, act, Input}
@@ -12,7 +12,9 @@ use Rattle.pager.specs.Held.{STATES}
 use Rattle.machine.specs.Memory.{Lies}
 use Rattle.machine.specs.declared.answers.Run.{Run}
 use Rattle.machine.specs.declared.answers.Step.{Step}
-use Rattle.machine.specs.declared.answers.Step.TheVariants.{On, Accept, Reject, Refused}
+use Rattle.machine.specs.declared.answers.Step.TheVariants.{On, Accept, Reject}
+use Rattle.machine.specs.declared.answers.StepRefusal.{StepRefusal}
+use Rattle.machine.specs.declared.answers.StepRefusal.TheVariants.{StackRoom, OutputRoom, BadTable}
 
 -- the room is the lent lengths (a step looks at these alone: it knows of no step limit)
 abbrev pub lent : ℕ → List ℕ → List ℕ → Limits
@@ -56,21 +58,32 @@ number_of Why.output-room = 15
 number_of Why.out-of-steps = 16
 number_of Why.bad = 17
 
+-- the same of a step that is refused
+abbrev pub refusal_number : StepRefusal → ℕ
+refusal_number StackRoom = 14
+refusal_number OutputRoom = 15
+refusal_number BadTable = 17
+
+-- what a step answers, a refusal by its number
+abbrev pub step_of : Result Step StepRefusal → Result Step ℕ
+step_of (Ok step) = Ok step
+step_of (Err refusal) = Err (refusal_number refusal)
+
 -- an accept and an error are steps; a refusal is none
-abbrev pub ending : Why → Run → Step
-ending Why.accept run = Accept (counted run)
-ending Why.reject run = Reject (counted run)
-ending Why.stack-room run = Refused (number_of Why.stack-room)
-ending Why.output-room run = Refused (number_of Why.output-room)
-ending Why.out-of-steps run = Refused (number_of Why.out-of-steps)
-ending Why.bad run = Refused (number_of Why.bad)
+abbrev pub ending : Why → Run → Result Step ℕ
+ending Why.accept run = Ok (Accept (counted run))
+ending Why.reject run = Ok (Reject (counted run))
+ending Why.stack-room run = Err (number_of Why.stack-room)
+ending Why.output-room run = Err (number_of Why.output-room)
+ending Why.out-of-steps run = Err (number_of Why.out-of-steps)
+ending Why.bad run = Err (number_of Why.bad)
 
 -- the answer to a step of a run over n tokens
-abbrev pub answer_to : ℕ → Run → theory.Step → Step
-answer_to n run (moves c') = On (run_of n (suc run.steps) c')
+abbrev pub answer_to : ℕ → Run → theory.Step → Result Step ℕ
+answer_to n run (moves c') = Ok (On (run_of n (suc run.steps) c'))
 answer_to n run (stops why) = ending why run
 
 -- the answer, and memory afterwards
-pub record Stepped (states : ℕ) (input : List ℕ) (run : Run) (c : Config) (s : theory.Step) (r : Step) (stack output old : List ℕ) : Type 0 where
-  pub answer : r ≡ answer_to (length input) run s
+pub record Stepped (states : ℕ) (input : List ℕ) (run : Run) (c : Config) (s : theory.Step) (r : Result Step StepRefusal) (stack output old : List ℕ) : Type 0 where
+  pub answer : step_of r ≡ answer_to (length input) run s
   pub lies : Lies states input stack output old (stands c s)

@@ -1,19 +1,19 @@
-// The call that runs the machine: refusals 1 to 7 and 13, then steps.
-ghost use Rattle.std.specs.Prelude.{◌≡◌, zero, length};
-ghost use Rattle.block.specs.Refusal.{Good};
-ghost use Rattle.pager.specs.Held.{found_or};
-ghost use Rattle.pager.specs.Lists.{find};
-ghost use Rattle.machine.specs.Call.{called, room_short, bad_token, Begun, machine_of, run_call, told, answer_of, stack_of, output_of};
+//! The call that runs the machine: refusals 1 to 7 and 13, then steps.
+ghost use Rattle.std.specs.Prelude.{◌≡◌, length, position};
+ghost use Rattle.machine.specs.Call.{called, room_short, bad_token, Begun, machine_of, run_call, told, answer_of, ended_of, stack_of, output_of};
 
-use crate::answers::{Ran, Run, Step};
+use crate::answers::{Run, Step};
+use crate::ends::{Ended, How, RunRefusal, Stop};
 use crate::limits::{INPUT, STEPS};
-use crate::moves::{drop_slots, step};
-use block::{check_block, number, sizes_of};
+use crate::moves::step;
+use crate::tables::Tables;
+use block::Grammar;
 use pager::limits::STATES;
 
-// Refusal 7, by the lengths of what is lent.
+/// Refusal 7, by the lengths of what is lent.
+#[tactic(auto, unfolding(crate::specs::Call::room_short, pager::specs::Call::some_less))]
 fn room_short(
-    block: &[u32],
+    grammar: Grammar<'_>,
     states: usize,
     actions: usize,
     gotos: usize,
@@ -21,67 +21,43 @@ fn room_short(
     limit: usize,
     stack: usize,
 ) -> bool
-    requires { Good block.now }
-    ensures { result ≡ room_short block.now states actions gotos input limit stack }
+    ensures { result ≡ room_short grammar.entry.words.now states actions gotos input limit stack }
 {
-    let z = sizes_of(block);
-    if states < 1 {
-        return true;
-    }
-    if STATES < states {
-        return true;
-    }
-    if actions < states * z.tokens {
-        return true;
-    }
-    if gotos < states * z.rules {
-        return true;
-    }
-    if INPUT < input {
-        return true;
-    }
-    if STEPS < limit {
-        return true;
-    }
-    stack < 1
+    states < 1
+        || STATES < states
+        || actions < states * grammar.tokens()
+        || gotos < states * grammar.rules()
+        || INPUT < input
+        || STEPS < limit
+        || stack < 1
 }
 
-// The place of the first token that is not below T or is the end token; the length for none.
-fn bad_token(block: &[u32], input: &[u32]) -> usize
-    requires { Good block.now }
-    ensures { result ≡ found_or (length input.now) (find (bad_token block.now) zero input.now) }
+/// The place of the first token that is not below T or is the end token.
+#[tactic(auto, unfolding(crate::specs::Call::bad_token))]
+fn bad_token(grammar: Grammar<'_>, input: &[u32]) -> Option<usize>
+    ensures { result ≡ position (bad_token grammar.entry.words.now) input.now }
 {
-    let z = sizes_of(block);
-    let mut i = 0usize;
-    while i < input.len() {
-        let t = input[i] as usize;
-        if z.tokens <= t || t == z.end {
-            return i;
-        }
-        i += 1;
-    }
-    i
+    let tokens = grammar.tokens();
+    let end = grammar.end();
+    input.iter().position(|token| tokens <= *token as usize || *token as usize == end)
 }
 
-// Steps until an answer, a refusal or the limit, which is looked at before each step.
+/// Steps until an answer, a refusal or the limit, which is looked at before each step.
 fn run_from(
-    block: &[u32],
-    states: usize,
-    actions: &[u32],
-    gotos: &[u32],
+    tables: Tables<'_>,
     input: &[u32],
     limit: usize,
     stack: &mut [u32],
     output: &mut [u32],
-) -> Ran
-    requires { Begun (called block.now states actions.now gotos.now input.now limit stack.old output.old) }
-    ensures answer { answer_of result ≡ told (length input.now)
-        (machine_of (called block.now states actions.now gotos.now input.now limit stack.old output.old)) }
+) -> Ended
+    requires { Begun (called tables.grammar.words.now tables.states tables.actions.now tables.gotos.now input.now limit stack.old output.old) }
+    ensures answer { ended_of result ≡ told (length input.now)
+        (machine_of (called tables.entry.grammar.words.now tables.entry.states tables.entry.actions.now tables.entry.gotos.now input.now limit stack.old output.old)) }
     ensures stack { stack.new ≡ stack_of
-        (machine_of (called block.now states actions.now gotos.now input.now limit stack.old output.old))
+        (machine_of (called tables.entry.grammar.words.now tables.entry.states tables.entry.actions.now tables.entry.gotos.now input.now limit stack.old output.old))
         stack.old }
     ensures output { output.new ≡ output_of
-        (machine_of (called block.now states actions.now gotos.now input.now limit stack.old output.old))
+        (machine_of (called tables.entry.grammar.words.now tables.entry.states tables.entry.actions.now tables.entry.gotos.now input.now limit stack.old output.old))
         output.old }
 {
     let mut run = Run {
@@ -90,18 +66,39 @@ fn run_from(
         steps: 0,
         height: 1,
     };
+    // stays: no index is counted here; `step` counts the steps, and their number is part of the answer
     while run.steps < limit {
-        match step(block, states, actions, gotos, input, run, stack, output) {
-            Step::On(r) => run = r,
-            Step::Accept(r) => return Ran::Accept(r),
-            Step::Reject(r) => return Ran::Reject(r),
-            Step::Refused(n) => return Ran::Stopped(n, run),
+        match step(tables, input, run, stack, output) {
+            Ok(Step::On(next)) => run = next,
+            Ok(Step::Accept(last)) => {
+                return Ended {
+                    how: How::Accept,
+                    run: last,
+                };
+            }
+            Ok(Step::Reject(last)) => {
+                return Ended {
+                    how: How::Reject,
+                    run: last,
+                };
+            }
+            Err(refusal) => {
+                return Ended {
+                    how: How::Stopped(Stop::from(refusal)),
+                    run,
+                };
+            }
         }
     }
-    Ran::Stopped(16, run)
+    Ended {
+        how: How::Stopped(Stop::StepLimit),
+        run,
+    }
 }
 
-// The machine on any block, tables and input, in at most `limit` steps.
+/// The machine on any block, tables and input, in at most `limit` steps. A refusal leaves stack and output
+/// as they stood.
+// stays: what may not change. `run` takes any words, so block and tables come one by one, and not as `Tables`.
 pub fn run(
     block: &[u32],
     states: usize,
@@ -111,7 +108,7 @@ pub fn run(
     limit: usize,
     stack: &mut [u32],
     output: &mut [u32],
-) -> Ran
+) -> Result<Ended, RunRefusal>
     ensures answer { answer_of result ≡ told (length input.now)
         (run_call (called block.now states actions.now gotos.now input.now limit stack.old output.old)) }
     ensures stack { stack.new ≡ stack_of
@@ -121,12 +118,9 @@ pub fn run(
         (run_call (called block.now states actions.now gotos.now input.now limit stack.old output.old))
         output.old }
 {
-    let n = number(check_block(block));
-    if n != 0 {
-        return Ran::Refused(n);
-    }
+    let grammar = Grammar::check(block)?;
     if room_short(
-        block,
+        grammar,
         states,
         actions.len(),
         gotos.len(),
@@ -134,13 +128,17 @@ pub fn run(
         limit,
         stack.len(),
     ) {
-        return Ran::Refused(7);
+        return Err(RunRefusal::RoomShort);
     }
-    let bad = bad_token(block, input);
-    if bad < input.len() {
-        return Ran::BadToken(bad);
+    if let Some(place) = bad_token(grammar, input) {
+        return Err(RunRefusal::BadToken { place });
     }
-    let room = stack.len();
-    drop_slots(stack, 0, room);
-    run_from(block, states, actions, gotos, input, limit, stack, output)
+    stack.fill(0);
+    let tables = Tables {
+        grammar,
+        states,
+        actions,
+        gotos,
+    };
+    Ok(run_from(tables, input, limit, stack, output))
 }

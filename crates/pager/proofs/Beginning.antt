@@ -85,7 +85,7 @@ module _ {b : List ℕ} {room : Room} {items spans edges marks closed kernel : L
       ∙ ap (λ (t : List ℕ). pad (room.states * w) t) (sym (append-nil (replicate w 0))))
 
   pub begun : (i' : List ℕ) → i' ≡ pad (ITEM * room.items) (item_words (start_state b ∷ [])) ++ z.items
-      → Counted b room (start_state b ∷ []) (record { states = 1; items = 1; stop = 0 }) i' (set spans 1 1) edges (set marks 1 1) z
+      → Counted b room (start_state b ∷ []) (record { states = 1; items = 1 }) i' (set spans 1 1) edges (set marks 1 1) z
   unfolding start_state new spans_from mark_words each items
   begun i' e =
       record {

@@ -2,13 +2,15 @@
 use mathlib.Core.Bool.{Bool, true, false, ◌&&◌, and-false}
 use mathlib.Core.List.{List, [], ◌∷◌}
 use mathlib.Core.Option.{Option, none, some}
-use mathlib.Core.Path.{◌≡◌, refl, sym, ap, ap₂, ◌∙◌}
+use mathlib.Core.Path.{◌≡◌, refl, sym, ap, ap₂, ◌∙◌, subst}
 use Prim.Native.Nat.{ℕ, zero, suc, ◌+◌, ◌≤◌, ◌<◌}
 use native.Mathlib.Omega.{arith}
 use lib.ListN.{length, get_or}
 use Rattle.block.specs.Lists.{same}
 use Rattle.pager.specs.Lists.{all, pairwise, find}
-use Rattle.pager.specs.Held.{found_or}
+use Rattle.std.specs.Prelude as std
+use Rattle.std.specs.Prelude.{Some, None}
+use Rattle.pager.specs.Held.{found_or, as_option}
 use Rattle.pager.proofs.Walks.{Found, found, found-zero}
 
 -- ---- all
@@ -61,6 +63,20 @@ module _ {A : Type 0} (f : A → A → Bool) (d : A) where
   same_size (x ∷ xs) [] h = refl
   same_size (x ∷ xs) (y ∷ ys) h = ap (λ (t : Bool). f x y && t) (same_size xs ys (λ e. h (ap suc e))) ∙ and-false (f x y)
 
+-- ---- what a search gives, as the code answers it
+pub some-is : (k : ℕ) (o : Option ℕ) → Some k ≡ as_option o → o ≡ some k
+some-is k (some n) e = cc
+some-is k none e = absurd (let z : ◌≡◌ {A = ℕ} 0 1 = cc in omega arith)
+
+pub none-is : (o : Option ℕ) → None ≡ as_option o → o ≡ none
+none-is (some n) e = absurd (let z : ◌≡◌ {A = ℕ} 0 1 = cc in omega arith)
+none-is none e = refl
+
+-- what is no place is none
+pub none-left : {a : std.Option ℕ} (r : std.Option ℕ) → r ≡ a → ((k : ℕ) → r ≡ Some k → ⊥) → None ≡ a
+none-left (Some k) e d = absurd (d k refl)
+none-left None e d = e
+
 -- ---- a search: the first place where f holds
 module _ {A : Type 0} (f : A → Bool) (d : A) where
   find_first : (n : ℕ) (xs : List A) (k : ℕ) → k < length xs → f (get_or xs k d) ≡ true → ((j : ℕ) → j < k → f (get_or xs j d) ≡ false)
@@ -87,6 +103,20 @@ module _ {A : Type 0} (f : A → Bool) (d : A) where
       ap (λ (t : Bool). elim t [ true ↦ some n | false ↦ find f (suc n) xs ]) (h 0 (omega arith)) ∙ find_none (suc n) xs (λ j l. h (suc j) (omega arith))
 
   -- what a loop has found, or has not
+  pub some-here : (xs : List A) (k : ℕ) → k < length xs → f (get_or xs k d) ≡ true → ((j : ℕ) → j < k → f (get_or xs j d) ≡ false)
+      → Some k ≡ as_option (find f 0 xs)
+  some-here xs k l e h = ap as_option (sym (find_first 0 xs k l e h ∙ ap {B = Option ℕ} some (zero-plus k)))
+    where
+      zero-plus : (n : ℕ) → 0 + n ≡ n
+      zero-plus n = omega arith
+
+  pub none-here : (xs : List A) (k : ℕ) → length xs ≤ k → ((j : ℕ) → j < k → f (get_or xs j d) ≡ false) → None ≡ as_option (find f 0 xs)
+  none-here xs k e h = ap as_option (sym (find_none 0 xs (λ j l. h j (omega arith))))
+
+  -- the place found is one where f holds
+  pub some-at : (xs : List A) (k : ℕ) → Some k ≡ as_option (find f 0 xs) → (k < length xs) × (f (get_or xs k d) ≡ true)
+  some-at xs k e = found-zero f d xs k (subst (λ o. Found f d 0 xs o) (some-is k (find f 0 xs) e) (found f d 0 xs))
+
   pub find-here : (xs : List A) (k : ℕ) → k < length xs → f (get_or xs k d) ≡ true → ((j : ℕ) → j < k → f (get_or xs j d) ≡ false)
       → k ≡ found_or (length xs) (find f 0 xs)
   find-here xs k l e h = sym (ap (found_or (length xs)) (find_first 0 xs k l e h) ∙ zero-plus k)

@@ -12,9 +12,10 @@ use lib.Seq.{drop_at}
 use Rattle.block.specs.Limits.{TOKENS, RULES, PRODS, SYMBOLS}
 use Rattle.block.specs.Block.{tokens, rules}
 use Rattle.block.specs.Refusal.{refusal_of, Good}
+use Rattle.block.specs.Refused.{number_of}
+use Rattle.block.specs.declared.refusal.BlockRefusal.{BlockRefusal}
+use Rattle.block.specs.declared.refusal.BlockRefusal.TheVariants.{BadHeader, TooLarge, BadProduction, BadStart, BadSymbol, BadPrecedence}
 use Rattle.block.specs.First.{firsts_of}
-use Rattle.block.specs.Answer.{sizes_of}
-use Rattle.block.specs.declared.check.Sizes.{Sizes}
 use Rattle.block.proofs.Good.{placed}
 use Rattle.pager.specs.Lists.{refused, unless, unchanged}
 use Rattle.pager.specs.Place.{State, Limits}
@@ -86,14 +87,6 @@ roomy b room l g e =
       kernel = (at_least (length l.kernel) (kernel_part b) [] e9).0;
     }
 
--- ---- the sizes that a good block names
-module _ {b : List ℕ} (g : Good b) (z : Sizes) (e : z ≡ sizes_of b) where
-  pub width_fits : z.rules + z.tokens ≤ RULES + TOKENS
-  width_fits = let p = placed g in omega (arith, ap (λ (y : Sizes). y.rules) e, ap (λ (y : Sizes). y.tokens) e, p.rules-most, p.tokens-most)
-
-  pub symbols-fit : z.symbols + z.prods ≤ SYMBOLS + PRODS
-  symbols-fit = let p = placed g in omega (arith, ap (λ (y : Sizes). y.symbols) e, ap (λ (y : Sizes). y.prods) e, p.symbols-most, p.prods-most)
-
 -- a row of edges for each state is not too large
 pub edge-part : (s w : ℕ) → s ≤ STATES → w ≤ RULES + TOKENS → s * w ≤ STATES * (RULES + TOKENS)
 edge-part s w h g = let q = mul-le-mul_right {m = s} {n = STATES} w h in omega arith
@@ -126,6 +119,15 @@ module _ {b : List ℕ} {m : Limits} {ss : List State} {z : Behind} {i s e k : L
 -- ---- the buffers, one by one
 pub lent_is : {i s e k c n i' s' e' k' c' n' : List ℕ} → i ≡ i' → s ≡ s' → e ≡ e' → k ≡ k' → c ≡ c' → n ≡ n' → lent i s e k c n ≡ lent i' s' e' k' c' n'
 lent_is p q r t u v = rw (p, q, r, t, u, v) refl
+
+-- ---- a refused block has a number above 0
+pub number-some : (e : BlockRefusal) → number_of e ≡ 0 → ⊥
+number-some BadHeader e = omega arith
+number-some TooLarge e = omega arith
+number-some BadProduction e = omega arith
+number-some BadStart e = omega arith
+number-some BadSymbol e = omega arith
+number-some BadPrecedence e = omega arith
 
 -- ---- the ways out
 module _ (b : List ℕ) (m : Limits) (l : Buffers) where

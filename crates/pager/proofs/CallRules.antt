@@ -3,6 +3,7 @@ use mathlib.Core.Bool.{Bool, true, false, cond, true≢false}
 use mathlib.Core.List.{List}
 use mathlib.Core.Path.{◌≡◌, refl, sym, ap, ◌∙◌}
 use Prim.Native.Nat.{ℕ, zero, suc}
+use Rattle.std.specs.Prelude.{Result, Ok, Err}
 use native.Mathlib.Omega.{arith}
 use lib.ListN.{get_or}
 use Rattle.block.specs.Refusal.{refusal_of, Good}
@@ -20,8 +21,10 @@ use Rattle.pager.specs.Call.{Buffers, is_short, or_else, turned_away, graph_call
 use Rattle.pager.specs.CallSteps.{Roomy}
 use Rattle.pager.specs.CallRules.{ClaimCall, ClaimWork, ClaimOne}
 use Rattle.pager.specs.declared.call.Kept.{Kept}
-use Rattle.pager.specs.declared.call.Graphed.{Graphed}
-use Rattle.pager.specs.declared.call.Graphed.TheVariants.{Built, Refused}
+use Rattle.block.specs.declared.refusal.BlockRefusal.TheVariants.{BadHeader, TooLarge, BadProduction, BadStart, BadSymbol, BadPrecedence}
+use Rattle.pager.specs.declared.refusal.GraphRefusal.{GraphRefusal}
+use Rattle.pager.specs.declared.refusal.GraphRefusal.TheVariants.{Block, RoomShort, StateRoom, ItemRoom}
+use Rattle.pager.specs.Held.{number_of}
 use Rattle.pager.proofs.CallLaws.{roomy}
 use Rattle.pager.proofs.Collected.{rules-3-to-7}
 
@@ -71,11 +74,35 @@ abbrev is-given : Answer Kept → Bool
 is-given (is k) = true
 is-given (refused why) = false
 
-pub answer-one : (r r' : Graphed) → answer_of r ≡ answer_of r' → r ≡ r'
-answer-one (Built k) (Built k') e = ap Built (ap (kept_in k) e)
-answer-one (Built k) (Refused n) e = absurd (true≢false (ap is-given e))
-answer-one (Refused n) (Built k) e = absurd (true≢false (sym (ap is-given e)))
-answer-one (Refused n) (Refused n') e = ap Refused (ap number_in e)
+-- the refusal of a number: each has its own
+abbrev refusal_in : ℕ → GraphRefusal
+refusal_in zero = RoomShort
+refusal_in (suc zero) = Block BadHeader
+refusal_in (suc (suc zero)) = Block TooLarge
+refusal_in (suc (suc (suc zero))) = Block BadProduction
+refusal_in (suc (suc (suc (suc zero)))) = Block BadStart
+refusal_in (suc (suc (suc (suc (suc zero))))) = Block BadSymbol
+refusal_in (suc (suc (suc (suc (suc (suc zero)))))) = Block BadPrecedence
+refusal_in (suc (suc (suc (suc (suc (suc (suc zero))))))) = RoomShort
+refusal_in (suc (suc (suc (suc (suc (suc (suc (suc zero)))))))) = StateRoom
+refusal_in (suc (suc (suc (suc (suc (suc (suc (suc (suc n))))))))) = ItemRoom
+
+back : (e : GraphRefusal) → refusal_in (number_of e) ≡ e
+back (Block BadHeader) = refl
+back (Block TooLarge) = refl
+back (Block BadProduction) = refl
+back (Block BadStart) = refl
+back (Block BadSymbol) = refl
+back (Block BadPrecedence) = refl
+back RoomShort = refl
+back StateRoom = refl
+back ItemRoom = refl
+
+pub answer-one : (r r' : Result Kept GraphRefusal) → answer_of r ≡ answer_of r' → r ≡ r'
+answer-one (Ok k) (Ok k') e = ap Ok (ap (kept_in k) e)
+answer-one (Ok k) (Err n) e = absurd (true≢false (ap is-given e))
+answer-one (Err n) (Ok k) e = absurd (true≢false (sym (ap is-given e)))
+answer-one (Err n) (Err n') e = ap Err (sym (back n) ∙ ap refusal_in (ap number_in e) ∙ back n')
 
 pub one-outcome : ClaimOne
 one-outcome b m before r r' after after' A B = (answer-one r r' (A.answer ∙ sym B.answer), A.buffers ∙ sym B.buffers)

@@ -1,6 +1,6 @@
 -- A state is closed, on the buffers. Assumes nothing.
-use mathlib.Core.Bool.{Bool}
 use mathlib.Core.List.{List}
+use Rattle.std.specs.Prelude.{Result}
 use mathlib.Core.Path.{◌≡◌, refl, ◌∙◌}
 use Prim.Native.Nat.{ℕ, ◌+◌, ◌*◌, ◌<◌, ◌≤◌}
 use native.Mathlib.Omega.{arith}
@@ -25,12 +25,13 @@ use Rattle.pager.specs.Held.{Behind, limits_of}
 use Rattle.pager.specs.Building.{Scratch, BuiltBy, Site, ForGotos, ForState}
 use Rattle.pager.specs.declared.room.Room.{Room}
 use Rattle.pager.specs.declared.room.Count.{Count}
+use Rattle.pager.specs.declared.refusal.GraphRefusal.{GraphRefusal}
 use Rattle.pager.proofs.Held.{marks-long, kernel-room, kernel-words}
 use Rattle.pager.proofs.Drawn.{held-mark, same_count}
 use Rattle.pager.proofs.Rooms.{wrote-front, wrote-scratch}
 
-module _ {b : List ℕ} {room : Room} {count : Count} {n : ℕ} {nullable : List Bool} {first closed kernel items spans edges marks : List ℕ} {ss : List State} {z : Behind}
-    (S : ForState b room count n nullable first closed kernel items spans edges marks ss z) where
+module _ {b : List ℕ} {room : Room} {count : Count} {n : ℕ} {closed kernel items spans edges marks : List ℕ} {ss : List State} {z : Behind}
+    (S : ForState b room count n closed kernel items spans edges marks ss z) where
   abbrev K : List Row
   K = (get_or ss n nowhere).rows
 
@@ -56,11 +57,10 @@ module _ {b : List ℕ} {room : Room} {count : Count} {n : ℕ} {nullable : List
   few = rows_few b (firsts_of b) (good-ready S.good) C closure-rows
 
   pub for-closure : (ws : List ℕ) → ws ≡ take (ITEM * get_or spans (2 * n + 1) 0) (drop (ITEM * get_or spans (2 * n) 0) items)
-      → ForClosure b nullable first ws closed K
+      → ForClosure b ws closed K
   for-closure ws e =
       record {
         kernel = record { good = S.good; rows = kernel-rows; words = e ∙ (kernel-words S.held n S.there).words };
-        firsts = S.firsts;
         room = S.room-closed;
       }
 
@@ -91,7 +91,7 @@ module _ {b : List ℕ} {room : Room} {count : Count} {n : ℕ} {nullable : List
           space = S.room-kernel;
         }
 
-  pub closes : (r : Count) (i' s' e' m' : List ℕ) → BuiltBy (walk (place_edge b (limits_of room) n) (change mark n ss) (gotos_of b C)) b room r i' s' e' m' z
+  pub closes : (r : Result Count GraphRefusal) (i' s' e' m' : List ℕ) → BuiltBy (walk (place_edge b (limits_of room) n) (change mark n ss) (gotos_of b C)) b room r i' s' e' m' z
       → BuiltBy (close_state b (firsts_of b) (limits_of room) ss n) b room r i' s' e' m' z
   unfolding close_state
   closes r i' s' e' m' B = B

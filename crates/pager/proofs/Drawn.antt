@@ -67,8 +67,8 @@ index_is b n x r t i e f h = ap₂ (λ (w j : ℕ). n * w + j) (ap₂ ◌+◌ e 
 
 -- ---- a state changed that has as many rows: the numbers are the same
 pub same_count : (f : State → State) → ((st : State) → length (f st).rows ≡ length st.rows) → (n : ℕ) (ss : List State)
-    → count_of 0 ss ≡ count_of 0 (change f n ss)
-same_count f h n ss = ap₂ (λ (a c : ℕ). record { states = a; items = c; stop = 0 }) (sym (change-size f n ss)) (sym (change-items f h n ss))
+    → count_of ss ≡ count_of (change f n ss)
+same_count f h n ss = ap₂ (λ (a c : ℕ). record { states = a; items = c }) (sym (change-size f n ss)) (sym (change-items f h n ss))
 
 module _ {b : List ℕ} {m : Limits} {ss : List State} {z : Behind} {i s e k : List ℕ} (H : Held b m ss z i s e k) (n : ℕ) (l : n < length ss) where
   abbrev w : ℕ

@@ -1,11 +1,13 @@
 -- Rows in memory that take the contexts of others, one after the other. Assumes nothing.
-use mathlib.Core.Bool.{Bool, true, false, not}
+use mathlib.Core.Bool.{Bool, true, false, not, true≢false, ◌||◌, or-false, or-true}
 use mathlib.Core.List.{List, [], ◌∷◌, ◌++◌, append_assoc}
 use mathlib.Core.Path.{◌≡◌, refl, sym, ap, ap₂, ◌∙◌, subst}
 use Prim.Native.Nat.{ℕ, zero, suc, ◌+◌, ◌*◌, ◌/◌, ◌<◌, ◌≤◌}
 use native.Mathlib.Omega.{arith}
 use native.Mathlib.Numerals.{add-one}
+use lib.Dec.{eqb}
 use lib.ListN.{length, get_or, take, drop, length-append}
+use lib.Pointwise.{pointwise, bytes_decides}
 use lib.Seq.{paste, take_at, drop_at, drop-drop, take_all, length-take-le, get_or_at}
 use Rattle.block.specs.Limits.{WORDS, ITEM}
 use Rattle.block.specs.Sets.{Fits, join}
@@ -153,18 +155,26 @@ module _ (at : ℕ) (before : List ℕ) (K : List Row) (behind : List ℕ) (L : 
               ∙ sym (ap (λ (rs : List Row). before ++ (words_of rs ++ behind)) after ∙ around before first new (drop (suc i) K) behind)
 
       -- whether it grew
-      pub merge-kept : u ≡ x → not (same_rows (union K (take i L)) K) ≡ not (same_rows (union K (take (i + 1) L)) K)
+      merge-kept : u ≡ x → not (same_rows (union K (take i L)) K) ≡ not (same_rows (union K (take (i + 1) L)) K)
       unfolding first old new
       merge-kept e =
           ap (λ (rs : List Row). not (same_rows rs K))
           (union-old K L i low l ∙ ap (λ (r : Row). first ++ r ∷ drop (suc i) K) (is_row old (context_of new) (sym here ∙ sym e ∙ new-context)) ∙ sym after)
 
-      pub merge-grew : (u ≡ x → ⊥) → true ≡ not (same_rows (union K (take (i + 1) L)) K)
+      merge-grew : (u ≡ x → ⊥) → true ≡ not (same_rows (union K (take (i + 1) L)) K)
       merge-grew h = go (same_rows (union K (take (i + 1) L)) K) refl
         where
           go : (t : Bool) → same_rows (union K (take (i + 1) L)) K ≡ t → true ≡ not t
           go true e = absurd (h (new-context ∙ ap context_of (sym at_new ∙ ap (λ (rs : List Row). get_or rs i no_row) (rows_is (union K (take (i + 1) L)) K e)) ∙ sym here))
           go false e = refl
+
+      pub merge-told : (g n : Bool) → g ≡ not (same_rows (union K (take i L)) K) → n ≡ not (pointwise eqb u x)
+          → (g || n) ≡ not (same_rows (union K (take (i + 1) L)) K)
+      merge-told g n e q = ap (λ (t : Bool). g || t) q ∙ go (pointwise eqb u x) refl
+        where
+          go : (s : Bool) → pointwise eqb u x ≡ s → (g || not s) ≡ not (same_rows (union K (take (i + 1) L)) K)
+          go true h = or-false g ∙ e ∙ merge-kept ((bytes_decides u x).0 h)
+          go false h = or-true g ∙ merge-grew (λ z. true≢false (sym ((bytes_decides u x).1 z) ∙ h))
 
 -- ---- before the first turn, and after the last
 pub merge_none : {at : ℕ} {before : List ℕ} {K : List Row} {behind : List ℕ} (L : List Row) {ws : List ℕ} → RowsAt at before K behind ws

@@ -35,7 +35,6 @@ pub mod CallParts
 pub mod CallRules
 pub mod Refusals
 pub mod CallSamples
-pub mod Zeroing
 pub mod Marked
 pub mod Drawn
 pub mod Rooms

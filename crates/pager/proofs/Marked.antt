@@ -11,9 +11,11 @@ use Rattle.pager.specs.Lists.{find}
 use Rattle.pager.specs.Place.{State}
 use Rattle.pager.specs.Graph.{nowhere, next_state}
 use Rattle.pager.specs.Memory.{mark_words}
-use Rattle.pager.specs.Held.{found_or}
+use Rattle.std.specs.Prelude.{Some, None}
+use Rattle.std.specs.Prelude as std
+use Rattle.pager.specs.Held.{as_option}
+use Rattle.pager.proofs.ByIndex.{none-is}
 use Rattle.pager.specs.Building.{Marks}
-use Rattle.pager.proofs.Walks.{Found, found}
 use Rattle.pager.proofs.Padded.{pad-at}
 use Rattle.pager.proofs.Memory.{marks-length, marks-open}
 
@@ -57,21 +59,17 @@ module _ {N : ℕ} {ss : List State} {z marks : List ℕ} (M : Marks N ss z mark
       go false h = absurd (h refl)
 
 -- ---- the state after the last one closed, else the first
-module _ (last : ℕ) (ss : List State) (n : ℕ) (size : n ≡ length ss) (r : ℕ)
-    (first : r ≡ found_or n (find unclosed (suc last) (drop (suc last) ss))) where
-  pub next-later : r < n → r ≡ found_or n (next_state last ss)
+module _ (last : ℕ) (ss : List State) where
+  pub next-later : (s : ℕ) → Some s ≡ as_option (find unclosed (suc last) (drop (suc last) ss)) → Some s ≡ as_option (next_state last ss)
   unfolding next_state
-  next-later l = go (find unclosed (suc last) (drop (suc last) ss)) first
+  next-later s first = go (find unclosed (suc last) (drop (suc last) ss)) first
     where
-      go : (o : Option ℕ) → r ≡ found_or n o → r ≡ found_or n (elim o [ some k ↦ some k | none ↦ find unclosed 0 ss ])
+      go : (o : Option ℕ) → Some s ≡ as_option o → Some s ≡ as_option (elim o [ some k ↦ some k | none ↦ find unclosed 0 ss ])
       go (some k) e = e
-      go none e = absurd (omega arith)
+      go none e = absurd (let z : ◌≡◌ {A = ℕ} 0 1 = cc in omega arith)
 
-  pub next-first : n ≤ r → (q : ℕ) → q ≡ found_or n (find unclosed 0 ss) → q ≡ found_or n (next_state last ss)
+  pub next-first : None ≡ as_option (find unclosed (suc last) (drop (suc last) ss)) → (q : std.Option ℕ) → q ≡ as_option (find unclosed 0 ss)
+      → q ≡ as_option (next_state last ss)
   unfolding next_state
-  next-first l q e = go (find unclosed (suc last) (drop (suc last) ss)) (found unclosed nowhere (suc last) (drop (suc last) ss)) first
-    where
-      go : (o : Option ℕ) → Found unclosed nowhere (suc last) (drop (suc last) ss) o → r ≡ found_or n o
-          → q ≡ found_or n (elim o [ some k ↦ some k | none ↦ find unclosed 0 ss ])
-      go (some k) (j, i, m, t) f = absurd (omega (arith, length-drop (suc last) ss))
-      go none h f = e
+  next-first first q e =
+      e ∙ ap (λ o. as_option (elim o as (λ x. Option ℕ) [ some k ↦ some k | none ↦ find unclosed 0 ss ])) (sym (none-is (find unclosed (suc last) (drop (suc last) ss)) first))

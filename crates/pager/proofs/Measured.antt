@@ -78,7 +78,7 @@ marks-closed (st ∷ ss) ws = ap₂ ◌+◌ (bit st.closed) (marks-closed ss ws)
     bit true = refl
     bit false = refl
 
-pub phi-read : {b : List ℕ} {m : Limits} {ss : List State} {z : Behind} {i s e k : List ℕ} → Held b m ss z i s e k → (count : Count) → count ≡ count_of 0 ss
+pub phi-read : {b : List ℕ} {m : Limits} {ss : List State} {z : Behind} {i s e k : List ℕ} → Held b m ss z i s e k → (count : Count) → count ≡ count_of ss
     → phi_of count i k ≡ phi ss
 unfolding phi_of pad
 phi-read {b} {m} {ss} {z} {i} {s} {e} {k} H count q =

@@ -56,7 +56,7 @@ arriving =
       known = omega arith;
     }
 
-pub sample-ready : Ready room (count_of 0 (start_state g1 ∷ [])) 2 (129 ∷ with empty 1)
+pub sample-ready : Ready room (count_of (start_state g1 ∷ [])) 2 (129 ∷ with empty 1)
     (0 ∷ with empty 1 ++ replicate ITEM 0 ++ (7 ∷ [])) (0 ∷ 1 ∷ 0 ∷ 0 ∷ 7 ∷ []) (0 ∷ 1 ∷ 0 ∷ 0 ∷ 7 ∷ []) view
 unfolding pad item_words spans_from edge_words mark_words each words_of start_state new with empty
 sample-ready =

@@ -2,12 +2,14 @@
 use mathlib.Core.Bool.{Bool, true, false, not, cond, ◌&&◌}
 use mathlib.Core.List.{List, [], ◌∷◌, ◌++◌}
 use mathlib.Core.Option.{Option, none, some}
+use Rattle.std.specs.Prelude.{Result, Ok, Err, Some, None}
 use mathlib.Core.Path.{◌≡◌, refl, sym, ap, ap₂, ◌∙◌, subst}
 use Prim.Native.Nat.{ℕ, suc, ◌+◌, ◌*◌, ◌/◌, ◌<◌, ◌≤◌}
 use native.Mathlib.Omega.{arith}
 use lib.Dec.{eqb, leb}
 use lib.ListN.{length, get_or, take, drop, set}
 use lib.Seq.{paste}
+use Rattle.std.proofs.lemmas.List.Edits.{paste_all}
 use borrow.Author.Tests.{eqb-true, eq-eqb, ne_eqb, lt-ltb, le-ltb, le-leb, lt-leb}
 use Rattle.block.specs.Limits.{ITEM}
 use Rattle.block.specs.Lists.{change}
@@ -17,29 +19,34 @@ use Rattle.pager.specs.Lists.{find, Answer, is, refused}
 use Rattle.pager.specs.Weak.{compatible, union}
 use Rattle.pager.specs.Place.{State, Limits, items, new, take_in, is_equal, is_weak, add_state, place_of}
 use Rattle.pager.specs.Graph.{nowhere}
-use Rattle.pager.specs.RowWords.{RowWords, RowsAt, alike}
-use Rattle.pager.specs.Held.{Held, View, Ready, PutBy, PutIn, limits_of, count_of, found_or, sought, STATES, ITEMS}
+use Rattle.pager.specs.RowWords.{RowWords, RowsAt}
+use Rattle.pager.specs.Held.{Held, View, Ready, PutBy, PutIn, limits_of, count_of, as_option, sought, STATES, ITEMS}
 use Rattle.pager.specs.declared.room.Room.{Room}
 use Rattle.pager.specs.declared.room.Count.{Count}
 use Rattle.pager.specs.declared.place.Put.{Put}
+use Rattle.pager.specs.declared.refusal.GraphRefusal.{GraphRefusal}
+use Rattle.pager.specs.declared.refusal.GraphRefusal.TheVariants.{StateRoom, ItemRoom}
 use Rattle.pager.proofs.Union.{union-length}
 use Rattle.pager.proofs.Grown.{change-items, snoc-items, snoc-length}
-use Rattle.pager.proofs.ByIndex.{found_below, found_nowhere}
+use Rattle.pager.proofs.ByIndex.{some-is, none-is, some-at}
 use Rattle.pager.proofs.RowTests.{rows-length, compatible-size}
 use Rattle.pager.proofs.Held.{items-long, spans-long, marks-long, held_new, held-join, made-is, kernel-room, kernel-words, rows_at, before, behind, count-is}
 
 -- the test that a search makes of state n
-abbrev pub tested : Bool → View → ℕ → Bool
-tested weak v n = sought weak (suc v.symbol) v.kernel (get_or v.states n nowhere)
+abbrev pub tested : (List Row → List Row → Bool) → View → ℕ → Bool
+tested takes v n = sought takes (suc v.symbol) v.kernel (get_or v.states n nowhere)
 
--- it is a test of the symbol and one of the rows
-sought-is : (weak : Bool) (x : ℕ) (K : List Row) (st : State) → sought weak x K st ≡ (eqb st.made x && alike weak st.rows K)
-unfolding is_equal is_weak
-sought-is true x K st = refl
-sought-is false x K st = refl
+-- the two passes look for what is equal, and for what is weakly compatible
+pub equal-sought : (x : ℕ) (K : List Row) (ss : List State) → as_option (find (sought same_rows x K) 0 ss) ≡ as_option (find (is_equal x K) 0 ss)
+unfolding is_equal
+equal-sought x K ss = refl
 
-same_count : (a b d a' b' d' : ℕ) → a ≡ a' → b ≡ b' → d ≡ d' → ◌≡◌ {A = Count} (record { states = a; items = b; stop = d }) (record { states = a'; items = b'; stop = d' })
-same_count a b d a' b' d' p q r = cc
+pub weak-sought : (x : ℕ) (K : List Row) (ss : List State) → as_option (find (sought compatible x K) 0 ss) ≡ as_option (find (is_weak x K) 0 ss)
+unfolding is_weak
+weak-sought x K ss = refl
+
+same_count : (a b a' b' : ℕ) → a ≡ a' → b ≡ b' → ◌≡◌ {A = Count} (record { states = a; items = b }) (record { states = a'; items = b' })
+same_count a b a' b' p q = cc
 
 -- ---- the three answers of add_state
 module _ (b : List ℕ) (m : Limits) (ss : List State) (made : ℕ) (K : List Row) where
@@ -80,11 +87,11 @@ module _ (b : List ℕ) (m : Limits) (ss : List State) (x : ℕ) (K : List Row) 
   placed-new e f = ap₂ picked e f
 
 -- a union leaves the numbers as they were
-taken-count : (K : List Row) (n : ℕ) (ss : List State) → count_of 0 ss ≡ count_of 0 (change (take_in K) n ss)
+taken-count : (K : List Row) (n : ℕ) (ss : List State) → count_of ss ≡ count_of (change (take_in K) n ss)
 unfolding take_in
 taken-count K n ss =
-    same_count (length ss) (items ss) 0 (length (change (take_in K) n ss)) (items (change (take_in K) n ss)) 0 (sym (change-size (take_in K) n ss))
-    (sym (change-items (take_in K) (λ st. union-length st.rows K) n ss)) refl
+    same_count (length ss) (items ss) (length (change (take_in K) n ss)) (items (change (take_in K) n ss)) (sym (change-size (take_in K) n ss))
+    (sym (change-items (take_in K) (λ st. union-length st.rows K) n ss))
 
 -- the numbers fit, and the buffers are long enough for them
 pub record Roomy (room : Room) (count : Count) (kernel i s k : List ℕ) : Type 0 where
@@ -141,55 +148,39 @@ module _ {room : Room} {count : Count} {made : ℕ} {kernel i s k : List ℕ} {v
   states-room n l = ((kernel-room R.held n l).0, marks-room n (omega (arith, states-is)))
 
   -- ---- the test of state n, as a search makes it
-  module _ (weak : Bool) (n : ℕ) (l : n < length v.states) where
-    pub test-other : (get_or k (2 * n) 0 ≡ made → ⊥) → tested weak v n ≡ false
+  module _ (takes : List Row → List Row → Bool) (n : ℕ) (l : n < length v.states) where
+    pub test-other : (get_or k (2 * n) 0 ≡ made → ⊥) → tested takes v n ≡ false
     test-other h =
-        sought-is weak (suc v.symbol) v.kernel (get_or v.states n nowhere)
-        ∙ ap (λ (t : Bool). t && alike weak (get_or v.states n nowhere).rows v.kernel)
+        ap (λ (t : Bool). t && takes (get_or v.states n nowhere).rows v.kernel)
         (ne_eqb (get_or v.states n nowhere).made (suc v.symbol) (λ e. h (made-is R.held n l ∙ e ∙ sym R.symbol)))
 
     pub test-is : get_or k (2 * n) 0 ≡ made → (ws : List ℕ) → ws ≡ take (ITEM * get_or s (2 * n + 1) 0) (drop (ITEM * get_or s (2 * n) 0) i) → (t : Bool)
-        → ((K L : List Row) → RowWords ws K → RowWords kernel L → t ≡ alike weak K L) → tested weak v n ≡ t
+        → ((K L : List Row) → RowWords ws K → RowWords kernel L → t ≡ takes K L) → tested takes v n ≡ t
     test-is e ws ew t h =
-        sought-is weak (suc v.symbol) v.kernel (get_or v.states n nowhere)
-        ∙ ap₂ ◌&&◌ (eq-eqb (get_or v.states n nowhere).made (suc v.symbol) (sym (made-is R.held n l) ∙ e ∙ R.symbol))
+        ap₂ ◌&&◌ (eq-eqb (get_or v.states n nowhere).made (suc v.symbol) (sym (made-is R.held n l) ∙ e ∙ R.symbol))
         (sym (h (get_or v.states n nowhere).rows v.kernel
         (subst (λ us. RowWords us (get_or v.states n nowhere).rows) (sym ew) (kernel-words R.held n l)) ready_words))
 
   -- ---- a new state, if there is room
-  abbrev Added : Put → List ℕ → List ℕ → List ℕ → Type 0
+  abbrev Added : Result Put GraphRefusal → List ℕ → List ℕ → List ℕ → Type 0
   Added r i' s' k' = PutBy (add_state v.block (limits_of room) v.states (suc v.symbol) v.kernel) room r i' s' k' v
 
-  pub add-full : room.states ≤ count.states → Added (record { to = count.states; count = record { states = count.states; items = count.items; stop = 8 } }) i s k
+  pub add-full : room.states ≤ count.states → Added (Err StateRoom) i s k
   add-full h =
-      subst (λ a. PutBy a room (record { to = count.states; count = record { states = count.states; items = count.items; stop = 8 } }) i s k v)
+      subst (λ a. PutBy a room (Err StateRoom) i s k v)
       (sym (is-full v.block (limits_of room) v.states (suc v.symbol) v.kernel (omega (arith, states-is))))
-      (record {
-        stop = 8;
-        some = omega arith;
-        is = refl;
-        to = states-is;
-        counts = same_count count.states count.items 8 (length v.states) (items v.states) 8 states-is items-is refl;
-        held = R.held;
-      })
+      (record { is = refl; held = R.held })
 
   pub add-over : count.states < room.states → room.items < count.items + length kernel / ITEM
-      → Added (record { to = count.states; count = record { states = count.states; items = count.items; stop = 9 } }) i s k
+      → Added (Err ItemRoom) i s k
   add-over h l =
-      subst (λ a. PutBy a room (record { to = count.states; count = record { states = count.states; items = count.items; stop = 9 } }) i s k v)
+      subst (λ a. PutBy a room (Err ItemRoom) i s k v)
       (sym (is-over v.block (limits_of room) v.states (suc v.symbol) v.kernel (omega (arith, states-is)) (omega (arith, items-is, kernel-rows))))
-      (record {
-        stop = 9;
-        some = omega arith;
-        is = refl;
-        to = states-is;
-        counts = same_count count.states count.items 9 (length v.states) (items v.states) 9 states-is items-is refl;
-        held = R.held;
-      })
+      (record { is = refl; held = R.held })
 
   pub add_done : count.states < room.states → count.items + length kernel / ITEM ≤ room.items → (i' : List ℕ)
-      → i' ≡ paste i (ITEM * count.items) kernel (length kernel)
-      → Added (record { to = count.states; count = record { states = count.states + 1; items = count.items + length kernel / ITEM; stop = 0 } }) i'
+      → i' ≡ take (ITEM * count.items) i ++ (kernel ++ drop (ITEM * count.items + length kernel) i)
+      → Added (Ok (record { to = count.states; count = record { states = count.states + 1; items = count.items + length kernel / ITEM } })) i'
       (set (set s (2 * count.states) count.items) (2 * count.states + 1) (length kernel / ITEM))
       (set (set k (2 * count.states) made) (2 * count.states + 1) 1)
   add_done h l i' e =
@@ -198,15 +189,16 @@ module _ {room : Room} {count : Count} {made : ℕ} {kernel i s k : List ℕ} {v
       let st : State = new v.block (suc v.symbol) K in
       let hs : length ss < room.states = omega (arith, states-is) in
       let hi : items ss + length K ≤ room.items = omega (arith, items-is, kernel-rows) in
-      subst (λ a. PutBy a room (record { to = count.states; count = record { states = count.states + 1; items = count.items + length kernel / ITEM; stop = 0 } }) i'
+      let put : i' ≡ paste i (ITEM * count.items) kernel (length kernel) = e ∙ sym (paste_all i (ITEM * count.items) kernel (length kernel) refl) in
+      subst (λ a. PutBy a room (Ok (record { to = count.states; count = record { states = count.states + 1; items = count.items + length kernel / ITEM } })) i'
       (set (set s (2 * count.states) count.items) (2 * count.states + 1) (length kernel / ITEM))
       (set (set k (2 * count.states) made) (2 * count.states + 1) 1) v)
       (sym (is-new v.block (limits_of room) ss (suc v.symbol) K hs hi))
       (record {
         to = states-is;
-        counts = same_count (count.states + 1) (count.items + length kernel / ITEM) 0 (length (ss ++ (st ∷ []))) (items (ss ++ (st ∷ []))) 0
-            (omega (arith, states-is, snoc-length ss st)) (omega (arith, items-is, kernel-rows, new-count v.block (limits_of room) ss (suc v.symbol) K)) refl;
-        held = rw (e, states-is, items-is, kernel-rows, R.words, R.symbol) (held_new R.held v.symbol K R.arriving hs hi);
+        counts = same_count (count.states + 1) (count.items + length kernel / ITEM) (length (ss ++ (st ∷ []))) (items (ss ++ (st ∷ [])))
+            (omega (arith, states-is, snoc-length ss st)) (omega (arith, items-is, kernel-rows, new-count v.block (limits_of room) ss (suc v.symbol) K));
+        held = rw (put, states-is, items-is, kernel-rows, R.words, R.symbol) (held_new R.held v.symbol K R.arriving hs hi);
       })
 
   -- ---- a union: state n takes the kernel in
@@ -240,36 +232,27 @@ module _ {room : Room} {count : Count} {made : ℕ} {kernel i s k : List ℕ} {v
       joined_same q = joined k (sym (ap (λ (t : Bool). cond t (set k (2 * n + 1) 1) k) q))
 
   -- ---- rule 5
-  module _ (e : ℕ) (ee : e ≡ found_or (length v.states) (find (is_equal (suc v.symbol) v.kernel) 0 v.states)) where
-    pub put-equal : e < count.states → PutIn room (record { to = e; count = count }) i s k v
-    put-equal l =
-        subst (λ a. PutBy a room (record { to = e; count = count }) i s k v)
-        (sym (placed-equal v.block (limits_of room) v.states v.symbol v.kernel e
-        (found_below (is_equal (suc v.symbol) v.kernel) nowhere v.states e ee (omega (arith, states-is))).0))
-        (record { to = refl; counts = R.counts; held = R.held })
+  pub put-equal : (e : ℕ) → Some e ≡ as_option (find (is_equal (suc v.symbol) v.kernel) 0 v.states) → PutIn room (Ok (record { to = e; count = count })) i s k v
+  put-equal e q =
+      subst (λ a. PutBy a room (Ok (record { to = e; count = count })) i s k v)
+      (sym (placed-equal v.block (limits_of room) v.states v.symbol v.kernel e (some-is e (find (is_equal (suc v.symbol) v.kernel) 0 v.states) q)))
+      (record { to = refl; counts = R.counts; held = R.held })
 
-    module _ (h : count.states ≤ e) (f : ℕ) (ef : f ≡ found_or (length v.states) (find (is_weak (suc v.symbol) v.kernel) 0 v.states)) where
-      no-equal : find (is_equal (suc v.symbol) v.kernel) 0 v.states ≡ none
-      no-equal = found_nowhere (is_equal (suc v.symbol) v.kernel) nowhere v.states e ee (omega (arith, states-is))
+  module _ (h : None ≡ as_option (find (is_equal (suc v.symbol) v.kernel) 0 v.states)) where
+    pub put-weak : (f : ℕ) → Some f ≡ as_option (find (is_weak (suc v.symbol) v.kernel) 0 v.states) → (i' k' : List ℕ)
+        → Held v.block (limits_of room) (change (take_in v.kernel) f v.states) v.behind i' s v.edges k'
+        → PutIn room (Ok (record { to = f; count = count })) i' s k' v
+    put-weak f q i' k' H =
+        subst (λ a. PutBy a room (Ok (record { to = f; count = count })) i' s k' v)
+        (sym (placed-weak v.block (limits_of room) v.states v.symbol v.kernel f (none-is (find (is_equal (suc v.symbol) v.kernel) 0 v.states) h) (some-is f (find (is_weak (suc v.symbol) v.kernel) 0 v.states) q)))
+        (record { to = refl; counts = R.counts ∙ taken-count v.kernel f v.states; held = H })
 
-      pub put-weak : f < count.states → (i' k' : List ℕ)
-          → Held v.block (limits_of room) (change (take_in v.kernel) f v.states) v.behind i' s v.edges k'
-          → PutIn room (record { to = f; count = count }) i' s k' v
-      put-weak l i' k' H =
-          subst (λ a. PutBy a room (record { to = f; count = count }) i' s k' v)
-          (sym (placed-weak v.block (limits_of room) v.states v.symbol v.kernel f no-equal
-          (found_below (is_weak (suc v.symbol) v.kernel) nowhere v.states f ef (omega (arith, states-is))).0))
-          (record { to = refl; counts = R.counts ∙ taken-count v.kernel f v.states; held = H })
-
-      pub put-new : count.states ≤ f → (r : Put) (i' s' k' : List ℕ) → Added r i' s' k' → PutIn room r i' s' k' v
-      put-new l r i' s' k' a =
-          subst (λ a. PutBy a room r i' s' k' v)
-          (sym (placed-new v.block (limits_of room) v.states v.symbol v.kernel no-equal
-          (found_nowhere (is_weak (suc v.symbol) v.kernel) nowhere v.states f ef (omega (arith, states-is))))) a
+    pub put-new : None ≡ as_option (find (is_weak (suc v.symbol) v.kernel) 0 v.states) → (r : Result Put GraphRefusal) (i' s' k' : List ℕ) → Added r i' s' k'
+        → PutIn room r i' s' k' v
+    put-new q r i' s' k' a =
+        subst (λ a. PutBy a room r i' s' k' v) (sym (placed-new v.block (limits_of room) v.states v.symbol v.kernel (none-is (find (is_equal (suc v.symbol) v.kernel) 0 v.states) h) (none-is (find (is_weak (suc v.symbol) v.kernel) 0 v.states) q))) a
 
   -- the state found is one that may take the kernel in
-  pub weak-here : (f : ℕ) → f ≡ found_or (length v.states) (find (is_weak (suc v.symbol) v.kernel) 0 v.states) → f < count.states
+  pub weak-here : (f : ℕ) → Some f ≡ as_option (find (is_weak (suc v.symbol) v.kernel) 0 v.states)
       → (f < length v.states) × (is_weak (suc v.symbol) v.kernel (get_or v.states f nowhere) ≡ true)
-  weak-here f ef l =
-      let h : f < length v.states = omega (arith, states-is) in
-      (h, (found_below (is_weak (suc v.symbol) v.kernel) nowhere v.states f ef h).1)
+  weak-here f q = some-at (is_weak (suc v.symbol) v.kernel) nowhere v.states f q

@@ -1,53 +1,24 @@
 -- The tests of two kernels, on their words. Assumes nothing.
-use mathlib.Core.Bool.{Bool, true, false, not, true≢false, ◌&&◌, ◌||◌, and-false}
+use mathlib.Core.Bool.{Bool, true, false, true≢false, ◌&&◌, and-false}
 use mathlib.Core.List.{List, [], ◌∷◌}
-use mathlib.Core.Path.{◌≡◌, refl, sym, ap, ap₂, ◌∙◌, subst}
-use Prim.Native.Nat.{ℕ, zero, suc, ◌+◌, ◌*◌, ◌/◌, ◌<◌}
+use mathlib.Core.Path.{◌≡◌, refl, sym, ap, ap₂, ◌∙◌}
+use Prim.Native.Nat.{ℕ, zero, suc, ◌*◌, ◌/◌, ◌<◌}
 use native.Mathlib.Decide.{ℕ_discrete}
 use native.Mathlib.Omega.{arith}
 use lib.Dec.{eqb}
-use lib.ListN.{length, get_or, take, drop}
-use borrow.Author.Tests.{eq-eqb, ne_eqb, not-true, not-false}
-use Rattle.block.specs.Limits.{WORDS, ITEM}
+use lib.ListN.{length, get_or}
+use lib.Pointwise.{pointwise, bytes_decides}
+use borrow.Author.Tests.{eq-eqb, ne_eqb}
+use Rattle.block.specs.Limits.{ITEM}
 use Rattle.block.specs.Lists.{same}
-use Rattle.block.specs.Sets.{meets}
 use Rattle.block.proofs.ListLaws.{and_both}
 use Rattle.itemset.specs.Rows.{Row, row, words_of, same_rows}
 use Rattle.itemset.proofs.Words.{item_of, context_of, no_row, words-length, words-injective, item-at, context-at}
 use Rattle.itemset.proofs.Fuel.{rows_is, rows_refl}
 use Rattle.pager.specs.Lists.{pairwise}
 use Rattle.pager.specs.Weak.{item_same, contexts, apart, compatible}
-use Rattle.pager.specs.RowWords.{RowWords, context_at, apart_at, alike}
+use Rattle.pager.specs.RowWords.{RowWords, context_at, apart_at}
 use Rattle.pager.proofs.ByIndex.{pairwise-yes, pairwise-no, same-yes, same-no, same_size}
-
--- ---- one pair of rows
--- a test `m || n` as the code makes it
-pub or-first : {f r : Bool} (m n : Bool) → f ≡ r → r ≡ true → r ≡ m → f ≡ (m || n)
-or-first m n e t q = e ∙ t ∙ ap (λ (x : Bool). x || n) (sym t ∙ q)
-
-pub or-second : {f r s : Bool} (m n : Bool) → f ≡ s → r ≡ false → r ≡ m → s ≡ n → f ≡ (m || n)
-or-second m n e t q z = e ∙ z ∙ ap (λ (x : Bool). x || n) (sym t ∙ q)
-
--- p: crosswise; q: straight
-pub blocks-yes : (w x y z p q : Bool) → p ≡ (w || x) → p ≡ true → q ≡ (y || z) → not q ≡ not (not (w || x) || y || z)
-blocks-yes true x y z p q e t r = ap not r
-blocks-yes false true y z p q e t r = ap not r
-blocks-yes false false y z p q e t r = absurd (true≢false (sym t ∙ e))
-
-pub blocks-no : (w x y z p : Bool) → p ≡ (w || x) → p ≡ false → false ≡ not (not (w || x) || y || z)
-blocks-no true x y z p e t = absurd (true≢false (sym e ∙ t))
-blocks-no false true y z p e t = absurd (true≢false (sym e ∙ t))
-blocks-no false false y z p e t = refl
-
-module _ (a b : List ℕ) (i j : ℕ) (ai aj bi bj : List ℕ) (eai : ai ≡ take WORDS (drop (ITEM * i + 1) a)) (eaj : aj ≡ take WORDS (drop (ITEM * j + 1) a))
-    (ebi : bi ≡ take WORDS (drop (ITEM * i + 1) b)) (ebj : bj ≡ take WORDS (drop (ITEM * j + 1) b)) (p : Bool) (e : p ≡ (meets ai bj || meets aj bi)) where
-  pub pair-yes : p ≡ true → (q : Bool) → q ≡ (meets ai aj || meets bi bj) → not q ≡ not (apart_at a b i j)
-  unfolding apart_at apart context_at
-  pair-yes t q r = blocks-yes (meets ai bj) (meets aj bi) (meets ai aj) (meets bi bj) p q e t r ∙ rw (eai, eaj, ebi, ebj)
-
-  pub pair-no : p ≡ false → false ≡ not (apart_at a b i j)
-  unfolding apart_at apart context_at
-  pair-no t = blocks-no (meets ai bj) (meets aj bi) (meets ai aj) (meets bi bj) p e t ∙ rw (eai, eaj, ebi, ebj)
 
 item-test : (r q : Row) → item_same r q ≡ eqb (item_of r) (item_of q)
 unfolding item_same
@@ -81,19 +52,23 @@ pub row-context : {ws : List ℕ} {K : List Row} → RowWords ws K → (n : ℕ)
 unfolding context_at
 row-context {ws} {K} W n l = ap (λ (w : List ℕ). context_at w n) W.words ∙ context-at K n W.sets l
 
-module _ {ws us : List ℕ} (K L : List Row) (W : RowWords ws K) (U : RowWords us L) where
-  -- ---- equality
-  pub rows_same : ws ≡ us → true ≡ same_rows K L
-  rows_same e =
-      let z : K ≡ L = words-injective K L W.sets U.sets (sym W.words ∙ e ∙ U.words) in
-      sym (ap (same_rows K) (sym z) ∙ rows_refl K)
+agree : (p q : Bool) → (p ≡ true → q ≡ true) → (q ≡ true → p ≡ true) → p ≡ q
+agree true q h k = sym (h refl)
+agree false true h k = k refl
+agree false false h k = refl
 
-  pub rows-differ : (ws ≡ us → ⊥) → false ≡ same_rows K L
-  rows-differ h = go (same_rows K L) refl
+module _ {ws us : List ℕ} (K L : List Row) (W : RowWords ws K) (U : RowWords us L) where
+  -- ---- equality, as `==` tests it
+  pub same_words : pointwise eqb ws us ≡ same_rows K L
+  same_words = agree (pointwise eqb ws us) (same_rows K L) yes-rows yes-words
     where
-      go : (t : Bool) → same_rows K L ≡ t → false ≡ t
-      go true e = absurd (h (W.words ∙ ap words_of (rows_is K L e) ∙ sym U.words))
-      go false e = refl
+      yes-rows : pointwise eqb ws us ≡ true → same_rows K L ≡ true
+      yes-rows e =
+          let z : K ≡ L = words-injective K L W.sets U.sets (sym W.words ∙ (bytes_decides ws us).0 e ∙ U.words) in
+          ap (same_rows K) (sym z) ∙ rows_refl K
+
+      yes-words : same_rows K L ≡ true → pointwise eqb ws us ≡ true
+      yes-words e = (bytes_decides ws us).1 (W.words ∙ ap words_of (rows_is K L e) ∙ sym U.words)
 
   -- ---- the same items
   pub items-size : (length ws ≡ length us → ⊥) → false ≡ same item_same K L
@@ -150,28 +125,6 @@ module _ {ws us : List ℕ} (K L : List Row) (W : RowWords ws K) (U : RowWords u
   unfolding compatible
   weak-items t = sym (ap (λ (c : Bool). c && pairwise apart (contexts K L)) t)
 
--- ---- the answers of pair_blocks, and one row more
-pub apart-false : {r t : Bool} → r ≡ not t → r ≡ true → t ≡ false
-apart-false {r} {t} e q = not-true t (sym e ∙ q)
-
-pub apart-true : {r t : Bool} → r ≡ not t → r ≡ false → t ≡ true
-apart-true {r} {t} e q = not-false t (sym e ∙ q)
-
-pub later_more : {P : ℕ → Type 0} (i j : ℕ) → ((k : ℕ) → i < k → k < j → P k) → P j → (k : ℕ) → i < k → k < j + 1 → P k
-later_more {P} i j h p k l m =
-    elim (ℕ_discrete k j) [
-      | yes q ↦ subst P (sym q) p
-      | no q ↦ h k l (omega arith)
-    ]
-
-pub earlier_more : {P : ℕ → ℕ → Type 0} (i n : ℕ) → ((k j : ℕ) → k < i → k < j → j < n → P k j) → ((j : ℕ) → i < j → j < n → P i j)
-    → (k j : ℕ) → k < i + 1 → k < j → j < n → P k j
-earlier_more {P} i n h p k j l m q =
-    elim (ℕ_discrete k i) [
-      | yes e ↦ subst (λ x. P x j) (sym e) (p j (omega arith) q)
-      | no d ↦ h k j (omega arith) m q
-    ]
-
 -- weakly compatible kernels have the same number of rows
 pub compatible-size : (K L : List Row) → compatible K L ≡ true → length K ≡ length L
 unfolding compatible
@@ -180,7 +133,3 @@ compatible-size K L e =
       | yes q ↦ q
       | no d ↦ absurd (true≢false (sym (and_both (same item_same K L) (pairwise apart (contexts K L)) e).0 ∙ same_size item_same no_row K L d))
     ]
-
--- what is sought, by the flag
-pub alike_is : {weak : Bool} (w : Bool) → weak ≡ w → (K L : List Row) → alike w K L ≡ alike weak K L
-alike_is w e K L = ap (λ (t : Bool). alike t K L) (sym e)

@@ -1,5 +1,6 @@
 -- A goto kernel is placed and its edge drawn, on the buffers. Assumes nothing.
-use mathlib.Core.List.{List, [], ◌∷◌}
+use mathlib.Core.List.{List}
+use Rattle.std.specs.Prelude.{Ok, Err}
 use mathlib.Core.Path.{◌≡◌, refl, sym, ap, ◌∙◌, subst}
 use Prim.Native.Nat.{ℕ, suc, ◌+◌, ◌*◌, ◌%◌, ◌^◌, ◌<◌, ◌≤◌}
 use native.Mathlib.Omega.{arith}
@@ -8,7 +9,6 @@ use lib.ListN.{length, take, set}
 use Rattle.block.specs.Limits.{ITEM, RULES, TOKENS, SYMBOLS}
 use Rattle.block.specs.Lists.{change}
 use Rattle.block.specs.Block.{tokens, rules, symbols}
-use Rattle.block.specs.Refusal.{Good}
 use Rattle.block.specs.First.{firsts_of}
 use Rattle.block.proofs.Good.{placed}
 use Rattle.itemset.specs.Rows.{Row}
@@ -30,6 +30,7 @@ use Rattle.pager.specs.Building.{Scratch, Counted, BuiltBy, Site, ForGotos, ForG
 use Rattle.pager.specs.declared.room.Room.{Room}
 use Rattle.pager.specs.declared.room.Count.{Count}
 use Rattle.pager.specs.declared.place.Put.{Put}
+use Rattle.pager.specs.declared.refusal.GraphRefusal.{GraphRefusal}
 use Rattle.pager.proofs.Growing.{arriving, growing-place}
 use Rattle.pager.proofs.Drawn.{edge-inside, held-edge, same_count}
 use Rattle.pager.proofs.Rooms.{wrote-front, wrote-scratch}
@@ -94,38 +95,34 @@ module _ {b : List ℕ} {room : Room} {count : Count} {n x : ℕ} {closed kernel
         }
 
   -- ---- what `place` answers
-  module _ (r : Put) (i' s' m' : List ℕ) (P : PutIn room r i' s' m' view_of) where
-    abbrev Onto : ℕ × List State → Type 0
-    Onto p = Growing b (limits_of room) p.1 × (p.0 < length p.1) × Grows s.states p.1
+  abbrev Onto : ℕ × List State → Type 0
+  Onto p = Growing b (limits_of room) p.1 × (p.0 < length p.1) × Grows s.states p.1
 
-    onto : Given (place_of b (limits_of room) s.states x goto) Onto
-    onto = growing-place b (limits_of room) x goto s.states G.gotos.held.growing comes
+  onto : Given (place_of b (limits_of room) s.states x goto) Onto
+  onto = growing-place b (limits_of room) x goto s.states G.gotos.held.growing comes
 
-    abbrev w : ℕ
-    w = rules b + tokens b
+  abbrev w : ℕ
+  w = rules b + tokens b
 
-    full-stops : (why : List ℕ) → Full room why r i' s' m' view_of → r.count.stop ≡ 0 → ⊥
-    full-stops why F e = let a = F.some in let c = ap (λ (q : Count). q.stop) F.counts in omega arith
+  rows-as-many : (t : ℕ) (st : State) → length (edge_to b x t st).rows ≡ length st.rows
+  unfolding edge_to
+  rows-as-many t st = refl
 
-    pub draw-needs : r.count.stop ≡ 0 → Good b × (n < STATES) × (r.to < STATES) × (x < 2 ^ 32) × (n * w + edge_at b x < length edges)
-    draw-needs e =
+  module _ (r : Put) (i' s' m' : List ℕ) (P : PutIn room (Ok r) i' s' m' view_of) where
+    pub draw-needs : (n < STATES) × (r.to < STATES) × (x < 2 ^ 32) × (n * w + edge_at b x < length edges)
+    draw-needs =
         let H = G.gotos.held in
         let f = G.gotos.fair.states in
         let g = H.growing.few in (
-          G.gotos.good,
           omega (arith, G.gotos.there),
           low (place_of b (limits_of room) s.states x goto) P onto,
           omega (arith, symbol-small),
           edge-inside H n G.gotos.there x comes.known,
         )
       where
-        low : (o : Answer (ℕ × List State)) → PutBy o room r i' s' m' view_of → Given o Onto → r.to < STATES
+        low : (o : Answer (ℕ × List State)) → PutBy o room (Ok r) i' s' m' view_of → Given o Onto → r.to < STATES
         low (is p) C O = let a = C.to in let c = O.1 in let d = O.0.few in let f = G.gotos.fair.states in omega arith
-        low (refused why) F O = absurd (full-stops why F e)
-
-    rows-as-many : (t : ℕ) (st : State) → length (edge_to b x t st).rows ≡ length st.rows
-    unfolding edge_to
-    rows-as-many t st = refl
+        low (refused why) F O = absurd F
 
     was-drawn : (e' : List ℕ) → e' ≡ set edges (n * w + edge_at b x) (suc r.to) → (p : ℕ × List State) → Came room p.0 p.1 r i' s' m' view_of → Onto p
         → Counted b room (change (edge_to b x p.0) n p.1) r.count i' s' e' m' s.behind
@@ -138,29 +135,22 @@ module _ {b : List ℕ} {room : Room} {count : Count} {n x : ℕ} {closed kernel
               (sym (q ∙ ap (λ (t : ℕ). set edges (n * w + edge_at b x) (suc t)) C.to)) (held-edge C.held n l x comes.known p.0 O.1);
         }
 
-    pub drawn : r.count.stop ≡ 0 → (e' : List ℕ) → e' ≡ set edges (n * w + edge_at b x) (suc r.to)
-        → BuiltBy (place_edge b (limits_of room) n s.states (x, goto)) b room r.count i' s' e' m' s.behind
+    pub drawn : (e' : List ℕ) → e' ≡ set edges (n * w + edge_at b x) (suc r.to)
+        → BuiltBy (place_edge b (limits_of room) n s.states (x, goto)) b room (Ok r.count) i' s' e' m' s.behind
     unfolding place_edge
-    drawn e e' q = go (place_of b (limits_of room) s.states x goto) P onto
+    drawn e' q = go (place_of b (limits_of room) s.states x goto) P onto
       where
-        go : (o : Answer (ℕ × List State)) → PutBy o room r i' s' m' view_of → Given o Onto
-            → BuiltBy (elim o [ is p ↦ is (change (edge_to b x p.0) n p.1) | refused y ↦ refused y ]) b room r.count i' s' e' m' s.behind
+        go : (o : Answer (ℕ × List State)) → PutBy o room (Ok r) i' s' m' view_of → Given o Onto
+            → BuiltBy (elim o [ is p ↦ is (change (edge_to b x p.0) n p.1) | refused y ↦ refused y ]) b room (Ok r.count) i' s' e' m' s.behind
         go (is p) C O = was-drawn e' q p C O
-        go (refused why) F O = absurd (full-stops why F e)
+        go (refused why) F O = absurd F
 
-    pub not-drawn : (r.count.stop ≡ 0 → ⊥) → (e' : List ℕ) → e' ≡ edges
-        → BuiltBy (place_edge b (limits_of room) n s.states (x, goto)) b room r.count i' s' e' m' s.behind
-    unfolding place_edge
-    not-drawn d e' q = go (place_of b (limits_of room) s.states x goto) P
-      where
-        go : (o : Answer (ℕ × List State)) → PutBy o room r i' s' m' view_of
-            → BuiltBy (elim o [ is p ↦ is (change (edge_to b x p.0) n p.1) | refused y ↦ refused y ]) b room r.count i' s' e' m' s.behind
-        go (is p) C = absurd (d (ap (λ (q : Count). q.stop) C.counts))
-        go (refused why) F =
-            let c = ap (λ (q : Count). q.stop) F.counts in
-            record {
-              some = subst (λ (j : ℕ). 0 < j) (sym c) F.some;
-              is = F.is ∙ ap (λ (j : ℕ). j ∷ []) (sym c);
-              states = s.states;
-              held = subst (λ (v : List ℕ). held.Held b (limits_of room) s.states s.behind i' s' v m') (sym q) F.held;
-            }
+  pub not-drawn : (e : GraphRefusal) (i' s' m' : List ℕ) → PutIn room (Err e) i' s' m' view_of
+      → BuiltBy (place_edge b (limits_of room) n s.states (x, goto)) b room (Err e) i' s' edges m' s.behind
+  unfolding place_edge
+  not-drawn e i' s' m' P = go (place_of b (limits_of room) s.states x goto) P
+    where
+      go : (o : Answer (ℕ × List State)) → PutBy o room (Err e) i' s' m' view_of
+          → BuiltBy (elim o [ is p ↦ is (change (edge_to b x p.0) n p.1) | refused y ↦ refused y ]) b room (Err e) i' s' edges m' s.behind
+      go (is p) C = absurd C
+      go (refused why) F = record { is = F.is; states = s.states; held = F.held }

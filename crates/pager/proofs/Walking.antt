@@ -1,9 +1,10 @@
 -- The goto kernels of a state are placed one after the other, on the buffers. Assumes nothing.
 use mathlib.Core.List.{List, [], ◌∷◌, map, Memᴰ}
+use Rattle.std.specs.Prelude.{Ok, Err}
 use mathlib.Core.Path.{◌≡◌, refl, sym, ap, ◌∙◌, subst}
-use Prim.Native.Nat.{ℕ, zero, suc, ◌-◌, ◌<◌, ◌≤◌}
+use Prim.Native.Nat.{ℕ, zero, suc, ◌<◌, ◌≤◌}
 use native.Mathlib.Omega.{arith}
-use lib.ListN.{length, get_or, take, replicate, length-map, get_or-append}
+use lib.ListN.{length, get_or, take, length-map}
 use lib.Seq.{take_all}
 use Rattle.block.specs.First.{firsts_of}
 use Rattle.itemset.specs.Rows.{Row}
@@ -16,10 +17,9 @@ use Rattle.pager.specs.Graph.{place_edge}
 use Rattle.pager.specs.Given.{Given}
 use Rattle.pager.specs.Held.{limits_of}
 use Rattle.pager.specs.Building.{Counted, BuiltBy, Site, ForGotos, ForGoto}
-use Rattle.itemset.specs.Sights.{SIGHTS, SightsAre}
-use Rattle.itemset.specs.declared.goto.Sights.{Sights}
 use Rattle.pager.specs.declared.room.Room.{Room}
 use Rattle.pager.specs.declared.room.Count.{Count}
+use Rattle.pager.specs.declared.refusal.GraphRefusal.{GraphRefusal}
 use Rattle.pager.proofs.Walks.{given-map}
 use Rattle.pager.proofs.Growing.{Onward, arriving, growing-place-edge}
 
@@ -65,12 +65,15 @@ map_at g d (x ∷ xs) zero l = refl
 map_at g d (x ∷ xs) (suc i) l = map_at g d xs i (omega arith)
 
 -- ---- a symbol that `sights_of` answers
-module _ {r : Sights} {xs : List ℕ} (S : SightsAre r xs) where
-  pub sight-low : (i : ℕ) → i < r.count → i < length xs
-  sight-low i l = omega (arith, S.count)
+module _ {ys xs : List ℕ} (e : ys ≡ xs) where
+  pub sight-low : (i : ℕ) → i < length ys → i < length xs
+  sight-low i l = subst (λ (t : List ℕ). i < length t) e l
 
-  pub sight-at : (i : ℕ) → i < length xs → get_or r.symbols i 0 ≡ get_or xs i 0
-  sight-at i l = ap (λ (t : List ℕ). get_or t i 0) S.symbols ∙ get_or-append xs (replicate (SIGHTS - length xs) 0) 0 i l
+  pub sight-all : (i : ℕ) → length ys ≤ i → length xs ≤ i
+  sight-all i l = subst (λ (t : List ℕ). length t ≤ i) e l
+
+  pub sight-at : (i : ℕ) → get_or ys i 0 ≡ get_or xs i 0
+  sight-at i = ap (λ (t : List ℕ). get_or t i 0) e
 
 -- ---- the first i goto kernels have been placed
 module _ (b : List ℕ) (room : Room) (n : ℕ) (s : Site) where
@@ -81,27 +84,13 @@ module _ (b : List ℕ) (room : Room) (n : ℕ) (s : Site) where
   answer_of i = walk (place_edge b (limits_of room) n) s.states (take i (gotos_of b C))
 
   pub record Walked (i : ℕ) (count : Count) (items spans edges marks : List ℕ) : Type 0 where
-    pub built : BuiltBy (answer_of i) b room count items spans edges marks s.behind
-    pub there : Given (answer_of i) (λ rr. n < length rr)
-
-  -- nothing refused yet
-  pub record Turn (i : ℕ) (count : Count) (items spans edges marks : List ℕ) : Type 0 where
     pub states : List State
     pub is-answer : answer_of i ≡ is states
     pub counted : Counted b room states count items spans edges marks s.behind
     pub there : n < length states
 
-  pub turn : {i : ℕ} {count : Count} {items spans edges marks : List ℕ} → Walked i count items spans edges marks → count.stop ≡ 0
-      → Turn i count items spans edges marks
-  turn {i} {count} {items} {spans} {edges} {marks} W e = go (answer_of i) refl W.built W.there
-    where
-      go : (o : Answer (List State)) → answer_of i ≡ o → BuiltBy o b room count items spans edges marks s.behind → Given o (λ rr. n < length rr)
-          → Turn i count items spans edges marks
-      go (is rr) q B l = record { states = rr; is-answer = q; counted = B; there = l }
-      go (refused why) q B l = absurd (let z = B.some in omega arith)
-
-  abbrev pub site_of : {i : ℕ} {count : Count} {items spans edges marks : List ℕ} → Turn i count items spans edges marks → Site
-  site_of T = record { states = T.states; behind = s.behind; kernel = s.kernel }
+  abbrev pub site_of : {i : ℕ} {count : Count} {items spans edges marks : List ℕ} → Walked i count items spans edges marks → Site
+  site_of W = record { states = W.states; behind = s.behind; kernel = s.kernel }
 
   gotos-length : length (gotos_of b C) ≡ length (sights_of b C)
   unfolding gotos_of
@@ -111,33 +100,21 @@ module _ (b : List ℕ) (room : Room) (n : ℕ) (s : Site) where
   unfolding gotos_of
   gotos-at i l x e = map_at (λ y. (y, goto_of b C y)) (0, []) (sights_of b C) i l ∙ ap (λ (y : ℕ). (y, goto_of b C y)) (sym e)
 
-  -- ---- all of them, or a refusal
+  -- ---- all of them
   pub walked_all : {i : ℕ} {count : Count} {items spans edges marks : List ℕ} → Walked i count items spans edges marks → length (sights_of b C) ≤ i
-      → BuiltBy (walk (place_edge b (limits_of room) n) s.states (gotos_of b C)) b room count items spans edges marks s.behind
+      → BuiltBy (walk (place_edge b (limits_of room) n) s.states (gotos_of b C)) b room (Ok count) items spans edges marks s.behind
   unfolding answer_of
   walked_all {i} {count} {items} {spans} {edges} {marks} W l =
-      subst (λ t. BuiltBy (walk (place_edge b (limits_of room) n) s.states t) b room count items spans edges marks s.behind)
-      (take_all i (gotos_of b C) (omega (arith, gotos-length))) W.built
-
-  pub walked-stuck : {i : ℕ} {count : Count} {items spans edges marks : List ℕ} → Walked i count items spans edges marks → (count.stop ≡ 0 → ⊥)
-      → BuiltBy (walk (place_edge b (limits_of room) n) s.states (gotos_of b C)) b room count items spans edges marks s.behind
-  unfolding answer_of
-  walked-stuck {i} {count} {items} {spans} {edges} {marks} W d = go (answer_of i) refl W.built
-    where
-      go : (o : Answer (List State)) → answer_of i ≡ o → BuiltBy o b room count items spans edges marks s.behind
-          → BuiltBy (walk (place_edge b (limits_of room) n) s.states (gotos_of b C)) b room count items spans edges marks s.behind
-      go (is rr) q B = absurd (d (ap (λ (k : Count). k.stop) B.counts))
-      go (refused why) q B =
-          subst (λ o. BuiltBy o b room count items spans edges marks s.behind)
-          (sym (walk-stuck (place_edge b (limits_of room) n) (gotos_of b C) i why s.states q)) B
+      subst (λ o. BuiltBy o b room (Ok count) items spans edges marks s.behind)
+      (sym W.is-answer ∙ ap (λ t. walk (place_edge b (limits_of room) n) s.states t) (take_all i (gotos_of b C) (omega (arith, gotos-length)))) W.counted
 
   -- ---- one more
   module _ {start : Count} {closed kernel₀ items₀ spans₀ edges₀ marks₀ : List ℕ} (G : ForGotos b room start n closed kernel₀ items₀ spans₀ edges₀ marks₀ s) where
     pub walked_none : Walked 0 start items₀ spans₀ edges₀ marks₀
     unfolding answer_of walk
-    walked_none = record { built = record { counts = G.counts; held = G.held }; there = G.there }
+    walked_none = record { states = s.states; is-answer = refl; counted = record { counts = G.counts; held = G.held }; there = G.there }
 
-    module _ {i : ℕ} {count : Count} {items spans edges marks : List ℕ} (T : Turn i count items spans edges marks)
+    module _ {i : ℕ} {count : Count} {items spans edges marks : List ℕ} (T : Walked i count items spans edges marks)
         (l : i < length (sights_of b C)) (x : ℕ) (e : x ≡ get_or (sights_of b C) i 0) where
       sighted : Memᴰ x (sights_of b C)
       sighted = subst (λ (y : ℕ). Memᴰ y (sights_of b C)) (sym e) (mem-at (sights_of b C) i l)
@@ -174,10 +151,26 @@ module _ (b : List ℕ) (room : Room) (n : ℕ) (s : Site) where
           (arriving b (firsts_of b) (good-ready G.good) s.kernel G.rows x sighted))
 
       pub walked_next : (j : ℕ) → j ≡ suc i → {count' : Count} {items' spans' edges' marks' : List ℕ}
-          → BuiltBy (place_edge b (limits_of room) n T.states (x, goto_of b C x)) b room count' items' spans' edges' marks' s.behind
+          → BuiltBy (place_edge b (limits_of room) n T.states (x, goto_of b C x)) b room (Ok count') items' spans' edges' marks' s.behind
           → Walked j count' items' spans' edges' marks'
       walked_next j k {count'} {items'} {spans'} {edges'} {marks'} B =
-          record {
-            built = subst (λ o. BuiltBy o b room count' items' spans' edges' marks' s.behind) (sym (ap answer_of k ∙ next-answer)) B;
-            there = subst (λ o. Given o (λ rr. n < length rr)) (sym (ap answer_of k ∙ next-answer)) stays;
-          }
+          go (place_edge b (limits_of room) n T.states (x, goto_of b C x)) (ap answer_of k ∙ next-answer) B stays
+        where
+          go : (o : Answer (List State)) → answer_of j ≡ o → BuiltBy o b room (Ok count') items' spans' edges' marks' s.behind → Given o (λ rr. n < length rr)
+              → Walked j count' items' spans' edges' marks'
+          go (is rr) q B l = record { states = rr; is-answer = q; counted = B; there = l }
+          go (refused why) q B l = absurd B
+
+      -- or a refusal, which is the answer of all
+      pub walked-refused : (e : GraphRefusal) (items' spans' edges' marks' : List ℕ)
+          → BuiltBy (place_edge b (limits_of room) n T.states (x, goto_of b C x)) b room (Err e) items' spans' edges' marks' s.behind
+          → BuiltBy (walk (place_edge b (limits_of room) n) s.states (gotos_of b C)) b room (Err e) items' spans' edges' marks' s.behind
+      unfolding answer_of
+      walked-refused e items' spans' edges' marks' B = go (place_edge b (limits_of room) n T.states (x, goto_of b C x)) next-answer B
+        where
+          go : (o : Answer (List State)) → answer_of (suc i) ≡ o → BuiltBy o b room (Err e) items' spans' edges' marks' s.behind
+              → BuiltBy (walk (place_edge b (limits_of room) n) s.states (gotos_of b C)) b room (Err e) items' spans' edges' marks' s.behind
+          go (is rr) q B = absurd B
+          go (refused why) q B =
+              subst (λ o. BuiltBy o b room (Err e) items' spans' edges' marks' s.behind)
+              (sym (walk-stuck (place_edge b (limits_of room) n) (gotos_of b C) (suc i) why s.states q)) B

@@ -1,19 +1,20 @@
 -- What the calls that build the graph are lent, and what they leave. Assumes nothing.
-use Rattle.std.specs.Prelude.{Bool, ◌≡◌, ℕ, ◌+◌, ◌*◌, ◌≤◌, ◌<◌, length, drop, replicate}
+use Rattle.std.specs.Prelude.{Result, Ok, Err, ◌≡◌, ℕ, ◌+◌, ◌*◌, ◌≤◌, ◌<◌, length, drop, replicate}
 use mathlib.Core.List.{List, [], ◌∷◌, ◌++◌, Memᴰ}
 use Rattle.block.specs.Limits.{ITEM}
 use Rattle.block.specs.Block.{tokens, rules, prods, symbols}
 use Rattle.block.specs.Refusal.{Good}
-use Rattle.block.specs.First.{firsts_of, Stored}
+use Rattle.block.specs.First.{firsts_of}
 use Rattle.itemset.specs.Rows.{Row, Rows, words_of}
 use Rattle.itemset.specs.Close.{close_of}
 use Rattle.itemset.specs.Goto.{sights_of}
 use Rattle.pager.specs.Lists.{Answer, is, refused}
 use Rattle.pager.specs.Place.{State}
 use Rattle.pager.specs.Memory.{pad, mark_words}
-use Rattle.pager.specs.Held.{Behind, Held, Fair, limits_of, count_of}
+use Rattle.pager.specs.Held.{Behind, Held, Fair, limits_of, count_of, number_of}
 use Rattle.pager.specs.declared.room.Room.{Room}
 use Rattle.pager.specs.declared.room.Count.{Count}
+use Rattle.pager.specs.declared.refusal.GraphRefusal.{GraphRefusal}
 
 -- room that a call may use as it likes: what stands behind its first n words stays
 pub record Scratch (n : ℕ) (before after : List ℕ) : Type 0 where
@@ -22,19 +23,21 @@ pub record Scratch (n : ℕ) (before after : List ℕ) : Type 0 where
 
 -- states are held, and the numbers go with them
 pub record Counted (b : List ℕ) (room : Room) (ss : List State) (r : Count) (items spans edges marks : List ℕ) (z : Behind) : Type 0 where
-  pub counts : r ≡ count_of 0 ss
+  pub counts : r ≡ count_of ss
   pub held : Held b (limits_of room) ss z items spans edges marks
 
--- there was no room: the number that says so, and some states
-pub record Stopped (b : List ℕ) (room : Room) (why : List ℕ) (r : Count) (items spans edges marks : List ℕ) (z : Behind) : Type 0 where
-  pub some : 0 < r.stop
-  pub is : why ≡ r.stop ∷ []
+-- there was no room: the refusal that says so, and some states
+pub record Stopped (b : List ℕ) (room : Room) (why : List ℕ) (e : GraphRefusal) (items spans edges marks : List ℕ) (z : Behind) : Type 0 where
+  pub is : why ≡ number_of e ∷ []
   pub states : List State
   pub held : Held b (limits_of room) states z items spans edges marks
 
-abbrev pub BuiltBy : Answer (List State) → List ℕ → Room → Count → List ℕ → List ℕ → List ℕ → List ℕ → Behind → Type 0
-BuiltBy (is ss) b room r items spans edges marks z = Counted b room ss r items spans edges marks z
-BuiltBy (refused why) b room r items spans edges marks z = Stopped b room why r items spans edges marks z
+-- states where the answer is some, and a refusal where it is refused
+abbrev pub BuiltBy : Answer (List State) → List ℕ → Room → Result Count GraphRefusal → List ℕ → List ℕ → List ℕ → List ℕ → Behind → Type 0
+BuiltBy (is ss) b room (Ok r) items spans edges marks z = Counted b room ss r items spans edges marks z
+BuiltBy (is ss) b room (Err e) items spans edges marks z = ⊥
+BuiltBy (refused why) b room (Ok r) items spans edges marks z = ⊥
+BuiltBy (refused why) b room (Err e) items spans edges marks z = Stopped b room why e items spans edges marks z
 
 -- ---- the marks of the states ss, in front of z
 pub record Marks (N : ℕ) (ss : List State) (z marks : List ℕ) : Type 0 where
@@ -52,7 +55,7 @@ pub record ForGotos (b : List ℕ) (room : Room) (count : Count) (n : ℕ) (clos
   pub good : Good b
   pub fair : Fair (limits_of room)
   pub held : Held b (limits_of room) s.states s.behind items spans edges marks
-  pub counts : count ≡ count_of 0 s.states
+  pub counts : count ≡ count_of s.states
   pub there : n < length s.states
   pub rows : Rows b s.kernel
   pub words : closed ≡ words_of (close_of b (firsts_of b) s.kernel)
@@ -64,12 +67,11 @@ pub record ForGoto (b : List ℕ) (room : Room) (count : Count) (n x : ℕ) (clo
   pub sighted : Memᴰ x (sights_of b (close_of b (firsts_of b) s.kernel))
 
 -- state n is to be closed
-pub record ForState (b : List ℕ) (room : Room) (count : Count) (n : ℕ) (nullable : List Bool) (first closed kernel items spans edges marks : List ℕ) (ss : List State) (z : Behind) : Type 0 where
+pub record ForState (b : List ℕ) (room : Room) (count : Count) (n : ℕ) (closed kernel items spans edges marks : List ℕ) (ss : List State) (z : Behind) : Type 0 where
   pub good : Good b
   pub fair : Fair (limits_of room)
-  pub firsts : Stored (firsts_of b) nullable first
   pub held : Held b (limits_of room) ss z items spans edges marks
-  pub counts : count ≡ count_of 0 ss
+  pub counts : count ≡ count_of ss
   pub there : n < length ss
   pub room-closed : ITEM * (symbols b + prods b) ≤ length closed
   pub room-kernel : ITEM * symbols b ≤ length kernel

@@ -1,5 +1,5 @@
 -- The call `graph`: when it refuses, what it answers, and what each lent buffer holds then. Assumes nothing.
-use Rattle.std.specs.Prelude.{Bool, false, ◌||◌, cond, List, [], ◌∷◌, ◌++◌, ℕ, zero, suc, ◌+◌, ◌*◌, ltb, length, drop, replicate}
+use Rattle.std.specs.Prelude.{Bool, Result, Ok, Err, false, ◌||◌, cond, List, [], ◌∷◌, ◌++◌, ℕ, zero, suc, ◌+◌, ◌*◌, ltb, length, drop, replicate}
 use Rattle.block.specs.Limits.{ITEM}
 use Rattle.block.specs.Block.{tokens, rules, prods, symbols}
 use Rattle.block.specs.Refusal.{refusal_of}
@@ -9,10 +9,9 @@ use Rattle.pager.specs.Place.{State, Limits, items}
 use Rattle.pager.specs.Graph.{graph_of}
 use Rattle.pager.specs.Collect.{collect_of}
 use Rattle.pager.specs.Memory.{pad, item_words, spans_from, edge_words}
-use Rattle.pager.specs.Held.{STATES, ITEMS}
+use Rattle.pager.specs.Held.{STATES, ITEMS, number_of}
 use Rattle.pager.specs.declared.call.Kept.{Kept}
-use Rattle.pager.specs.declared.call.Graphed.{Graphed}
-use Rattle.pager.specs.declared.call.Graphed.TheVariants.{Built, Refused}
+use Rattle.pager.specs.declared.refusal.GraphRefusal.{GraphRefusal}
 
 -- ---- the lent buffers: items, spans and edges are outputs, the others work room
 pub record Buffers : Type 0 where
@@ -97,9 +96,9 @@ counted (is ss) = is (kept_rows_of ss)
 counted (refused why) = refused why
 
 -- the values of an answer, or document 01's number of it
-abbrev pub answer_of : Graphed → Answer Kept
-answer_of (Built k) = is k
-answer_of (Refused n) = refused (n ∷ [])
+abbrev pub answer_of : Result Kept GraphRefusal → Answer Kept
+answer_of (Ok k) = is k
+answer_of (Err e) = refused (number_of e ∷ [])
 
 -- ---- what the buffers hold at the end
 -- n words zero, all behind them unchanged

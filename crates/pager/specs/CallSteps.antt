@@ -1,5 +1,5 @@
 -- What the steps of the call `graph` ask and leave. Assumes nothing.
-use Rattle.std.specs.Prelude.{List, ◌++◌, ◌≡◌, ℕ, ◌+◌, ◌≤◌, length, drop, replicate}
+use Rattle.std.specs.Prelude.{Result, List, ◌++◌, ◌≡◌, ℕ, ◌+◌, ◌≤◌, length, drop, replicate}
 use Rattle.block.specs.Block.{tokens, rules}
 use Rattle.block.specs.Refusal.{Good}
 use Rattle.pager.specs.Lists.{Answer}
@@ -10,7 +10,8 @@ use Rattle.pager.specs.Building.{BuiltBy}
 use Rattle.pager.specs.Call.{Buffers, item_part, span_part, edge_part, mark_part, closed_part, kernel_part, counted, answer_of, output}
 use Rattle.pager.specs.declared.room.Room.{Room}
 use Rattle.pager.specs.declared.room.Count.{Count}
-use Rattle.pager.specs.declared.call.Graphed.{Graphed}
+use Rattle.pager.specs.declared.refusal.GraphRefusal.{GraphRefusal}
+use Rattle.pager.specs.declared.call.Kept.{Kept}
 
 -- a good block, and no 7
 pub record Roomy (b : List ℕ) (room : Room) (l : Buffers) : Type 0 where
@@ -36,12 +37,12 @@ pub record Outcome : Type 0 where
   pub graph : Answer (List State)
   pub behind : Behind
 
-pub record Unfinished (room : Room) (width : ℕ) (made : Count) (items spans edges marks : List ℕ) (v : Outcome) : Type 0 where
+pub record Unfinished (room : Room) (width : ℕ) (made : Result Count GraphRefusal) (items spans edges marks : List ℕ) (v : Outcome) : Type 0 where
   pub fair : Fair (limits_of room)
   pub width_is : width ≡ rules v.block + tokens v.block
   pub built : BuiltBy v.graph v.block room made items spans edges marks v.behind
 
-pub record Finished (room : Room) (r : Graphed) (items spans edges marks : List ℕ) (v : Outcome) : Type 0 where
+pub record Finished (room : Room) (r : Result Kept GraphRefusal) (items spans edges marks : List ℕ) (v : Outcome) : Type 0 where
   pub answer : answer_of r ≡ counted v.graph
   pub items-are : items ≡ output v.graph (item_part (limits_of room)) item_words ++ v.behind.items
   pub spans-are : spans ≡ output v.graph (span_part (limits_of room)) (spans_from 0) ++ v.behind.spans

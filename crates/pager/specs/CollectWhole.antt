@@ -18,11 +18,11 @@ pub record Whole : Type 0 where
 pub record Built (counts : Count) (width : ℕ) (items spans edges marks : List ℕ) (v : Whole) : Type 0 where
   pub fair : Fair v.limits
   pub held : Held v.block v.limits v.states v.behind items spans edges marks
-  pub counts-are : counts ≡ count_of 0 v.states
+  pub counts-are : counts ≡ count_of v.states
   pub width_is : width ≡ rules v.block + tokens v.block
 
 pub record Collected (r : Count) (items spans edges marks : List ℕ) (v : Whole) : Type 0 where
-  pub answer : r ≡ count_of 0 (collect_of v.states)
+  pub answer : r ≡ count_of (collect_of v.states)
   pub items-are : items ≡ pad (ITEM * v.limits.items) (item_words (collect_of v.states)) ++ v.behind.items
   pub spans-are : spans ≡ pad (2 * v.limits.states) (spans_from 0 (collect_of v.states)) ++ v.behind.spans
   pub edges_are : edges

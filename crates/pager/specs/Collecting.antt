@@ -1,6 +1,7 @@
 -- The steps of collection on the parts of the buffers that hold the states: what each asks, and what it leaves. Assumes nothing.
 use Rattle.std.specs.Prelude.{Bool, true, false, ◌⊎◌, ◌≡◌, ℕ, zero, suc, ◌+◌, ◌*◌, ◌≤◌, ◌<◌, ltb, length, get_or}
 use mathlib.Core.List.{List, [], ◌∷◌, foldl}
+use Rattle.block.specs.Limits.{ITEM}
 use Rattle.itemset.specs.Rows.{Sets}
 use Rattle.pager.specs.Place.{State}
 use Rattle.pager.specs.Graph.{nowhere}
@@ -84,9 +85,16 @@ pub record Numbered (ss : List State) (marks : List ℕ) : Type 0 where
 abbrev pub kept_by : List ℕ → List State → List State
 kept_by marks ss = kept (flags_of marks) (flags_of marks) ss
 
+-- what the moving of state s asks, where k states with so many rows are moved: its span, and its rows, not above where they are moved to
+pub record Movable (its spans : List ℕ) (k row s : ℕ) : Type 0 where
+  pub span-in : 2 * s + 1 < length spans
+  pub state-low : k ≤ s
+  pub row_low : row ≤ get_or spans (2 * s) 0
+  pub part_in : ITEM * get_or spans (2 * s) 0 + ITEM * get_or spans (2 * s + 1) 0 ≤ length its
+
 -- the items and spans of the states rr, zero behind them
 pub record ItemsLeft (rr : List State) (items₀ spans₀ : List ℕ) (r : Count) (items spans : List ℕ) : Type 0 where
-  pub answer : r ≡ count_of 0 rr
+  pub answer : r ≡ count_of rr
   pub items-are : items ≡ pad (length items₀) (item_words rr)
   pub spans-are : spans ≡ pad (length spans₀) (spans_from 0 rr)
 

@@ -1,8 +1,8 @@
 -- Rows as words, as the calls that compare and join them are lent them. Assumes nothing.
-use Rattle.std.specs.Prelude.{Bool, true, false, List, ◌++◌, ◌≡◌, ℕ, ◌+◌, ◌*◌, length, take, drop}
+use Rattle.std.specs.Prelude.{Bool, List, ◌++◌, ◌≡◌, ℕ, ◌+◌, ◌*◌, length, take, drop}
 use Rattle.block.specs.Limits.{WORDS, ITEM}
-use Rattle.itemset.specs.Rows.{Row, words_of, same_rows, Sets}
-use Rattle.pager.specs.Weak.{apart, compatible}
+use Rattle.itemset.specs.Rows.{Row, words_of, Sets}
+use Rattle.pager.specs.Weak.{apart}
 
 -- the words are rows, each with a token set
 pub record RowWords (ws : List ℕ) (K : List Row) : Type 0 where
@@ -22,8 +22,3 @@ context_at ws n = take WORDS (drop (ITEM * n + 1) ws)
 -- rule 6's test of rows i and j
 unfoldable pub apart_at : List ℕ → List ℕ → ℕ → ℕ → Bool
 apart_at ws us i j = apart (context_at ws i, context_at us i) (context_at ws j, context_at us j)
-
--- what rule 5 looks for: a weakly compatible kernel, or an equal one
-abbrev pub alike : Bool → List Row → List Row → Bool
-alike true K L = compatible K L
-alike false K L = same_rows K L

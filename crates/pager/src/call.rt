@@ -1,6 +1,5 @@
-// The call that builds the graph: refusals 1 to 9, the graph, collection.
+//! The call that builds the graph: what it is refused for, the graph, collection.
 ghost use Rattle.std.specs.Prelude.{◌≡◌, ◌+◌, ◌*◌};
-ghost use Rattle.block.specs.Refusal.{Good};
 ghost use Rattle.block.specs.First.{firsts_of};
 ghost use Rattle.pager.specs.Graph.{graph_of};
 ghost use Rattle.pager.specs.Held.{limits_of};
@@ -11,28 +10,23 @@ ghost use Rattle.pager.specs.CallSteps.{Roomy, behind_of, Outcome, Unfinished, F
 use crate::build::build_graph;
 use crate::collect::collect_states;
 use crate::limits::{ITEMS, STATES};
+use crate::refusal::GraphRefusal;
 use crate::room::{Count, Room};
-use crate::zero::{clear_room, zero64};
+use crate::zero::clear_room;
 use block::limits::ITEM;
-use block::{check_block, number, sizes_of};
+use block::{Firsts, Grammar};
 
-// States and items kept, and the states before collection.
-#[derive(Clone, Copy)]
+/// States and items kept, and the states before collection.
+#[derive(Clone, Copy, Debug, PartialEq, Eq)]
 pub struct Kept {
     pub states: usize,
     pub items: usize,
     pub before: usize,
 }
 
-#[derive(Clone, Copy)]
-pub enum Graphed {
-    Built(Kept),
-    Refused(u32),
-}
-
-// Refusal 7, by the lengths of the lent buffers.
+/// Whether a named size is out of range, or a lent buffer, of so many words, is shorter than the named sizes need.
 pub fn room_short(
-    block: &[u32],
+    grammar: Grammar<'_>,
     room: Room,
     items: usize,
     spans: usize,
@@ -41,10 +35,8 @@ pub fn room_short(
     closed: usize,
     kernel: usize,
 ) -> bool
-    requires { Good block.now }
-    ensures { result ≡ room_short block.now (limits_of room) items spans edges marks closed kernel }
+    ensures { result ≡ room_short grammar.entry.words.now (limits_of room) items spans edges marks closed kernel }
 {
-    let z = sizes_of(block);
     if room.states < 1 {
         return true;
     }
@@ -63,21 +55,21 @@ pub fn room_short(
     if spans < 2 * room.states {
         return true;
     }
-    if edges < room.states * (z.rules + z.tokens) {
+    if edges < room.states * (grammar.rules() + grammar.tokens()) {
         return true;
     }
     if marks < 2 * room.states {
         return true;
     }
-    if closed < ITEM * (z.symbols + z.prods) {
+    if closed < ITEM * (grammar.symbols() + grammar.productions()) {
         return true;
     }
-    kernel < ITEM * z.symbols
+    kernel < ITEM * grammar.symbols()
 }
 
-// Clears what is named, builds the graph, and clears the room it was worked out in.
+/// Clears what is named, builds the graph, and clears the room it was worked out in.
 fn make(
-    block: &[u32],
+    firsts: &Firsts<'_>,
     room: Room,
     items: &mut [u64],
     spans: &mut [u32],
@@ -85,50 +77,56 @@ fn make(
     marks: &mut [u32],
     closed: &mut [u64],
     kernel: &mut [u64],
-) -> Count
-    requires { Roomy block.now room (lent items.old spans.old edges.old marks.old closed.old kernel.old) }
-    ensures built { BuiltBy (graph_of block.now (firsts_of block.now) (limits_of room)) block.now room result items.new spans.new edges.new marks.new
-        (behind_of block.now (limits_of room) items.old spans.old edges.old marks.old) }
-    ensures closed { closed.new ≡ zeroed (closed_part block.now) closed.old }
-    ensures kernel { kernel.new ≡ zeroed (kernel_part block.now) kernel.old }
+) -> Result<Count, GraphRefusal>
+    requires { Roomy firsts.now.grammar.words.now room (lent items.old spans.old edges.old marks.old closed.old kernel.old) }
+    ensures built { BuiltBy (graph_of firsts.now.grammar.words.now (firsts_of firsts.now.grammar.words.now) (limits_of room)) firsts.now.grammar.words.now room result items.new spans.new edges.new marks.new
+        (behind_of firsts.now.grammar.words.now (limits_of room) items.old spans.old edges.old marks.old) }
+    ensures closed { closed.new ≡ zeroed (closed_part firsts.now.grammar.words.now) closed.old }
+    ensures kernel { kernel.new ≡ zeroed (kernel_part firsts.now.grammar.words.now) kernel.old }
 {
-    let z = sizes_of(block);
-    clear_room(room, z.rules + z.tokens, items, spans, edges, marks);
-    let made = build_graph(block, room, items, spans, edges, marks, closed, kernel);
-    zero64(closed, ITEM * (z.symbols + z.prods));
-    zero64(kernel, ITEM * z.symbols);
+    let grammar = firsts.grammar;
+    let width = grammar.rules() + grammar.tokens();
+    clear_room(room, width, items, spans, edges, marks);
+    let made = build_graph(firsts, room, items, spans, edges, marks, closed, kernel);
+    let symbols = grammar.symbols();
+    closed[..ITEM * (symbols + grammar.productions())].fill(0);
+    kernel[..ITEM * symbols].fill(0);
     made
 }
 
-// Keeps what state 0 reaches; where the graph was refused, clears it.
+/// Keeps what state 0 reaches; where the graph was refused, clears what is named.
 fn finish(
     room: Room,
     width: usize,
-    made: Count,
+    made: Result<Count, GraphRefusal>,
     items: &mut [u64],
     spans: &mut [u32],
     edges: &mut [u32],
     marks: &mut [u32],
-) -> Graphed
+) -> Result<Kept, GraphRefusal>
     requires { (v : Outcome) × Unfinished room width made items.old spans.old edges.old marks.old v }
     ensures { (v : Outcome) → Unfinished room width made items.old spans.old edges.old marks.old v
         → Finished room result items.new spans.new edges.new marks.new v }
 {
-    if made.stop != 0 {
-        clear_room(room, width, items, spans, edges, marks);
-        return Graphed::Refused(made.stop);
+    match made {
+        Err(refusal) => {
+            clear_room(room, width, items, spans, edges, marks);
+            Err(refusal)
+        }
+        Ok(count) => {
+            let kept = collect_states(items, spans, edges, marks, count, width);
+            Ok(Kept {
+                states: kept.states,
+                items: kept.items,
+                before: count.states,
+            })
+        }
     }
-    let kept = collect_states(items, spans, edges, marks, made, width);
-    Graphed::Built(Kept {
-        states: kept.states,
-        items: kept.items,
-        before: made.states,
-    })
 }
 
-// The graph of a good block, in room enough.
+/// The graph of a good block, in room enough; a refusal leaves what is named zero.
 fn build(
-    block: &[u32],
+    firsts: &Firsts<'_>,
     room: Room,
     items: &mut [u64],
     spans: &mut [u32],
@@ -136,21 +134,22 @@ fn build(
     marks: &mut [u32],
     closed: &mut [u64],
     kernel: &mut [u64],
-) -> Graphed
-    requires { Roomy block.now room (lent items.old spans.old edges.old marks.old closed.old kernel.old) }
-    ensures answer { answer_of result ≡ counted (graph_of block.now (firsts_of block.now) (limits_of room)) }
+) -> Result<Kept, GraphRefusal>
+    requires { Roomy firsts.now.grammar.words.now room (lent items.old spans.old edges.old marks.old closed.old kernel.old) }
+    ensures answer { answer_of result ≡ counted (graph_of firsts.now.grammar.words.now (firsts_of firsts.now.grammar.words.now) (limits_of room)) }
     ensures buffers { lent items.new spans.new edges.new marks.new closed.new kernel.new
-        ≡ written (graph_of block.now (firsts_of block.now) (limits_of room)) block.now (limits_of room)
+        ≡ written (graph_of firsts.now.grammar.words.now (firsts_of firsts.now.grammar.words.now) (limits_of room)) firsts.now.grammar.words.now (limits_of room)
         (lent items.old spans.old edges.old marks.old closed.old kernel.old) }
 {
-    let made = make(block, room, items, spans, edges, marks, closed, kernel);
-    let z = sizes_of(block);
-    finish(room, z.rules + z.tokens, made, items, spans, edges, marks)
+    let made = make(firsts, room, items, spans, edges, marks, closed, kernel);
+    let width = firsts.grammar.rules() + firsts.grammar.tokens();
+    finish(room, width, made, items, spans, edges, marks)
 }
 
-// The graph of any block, with at most `states` states and `most` kernel items.
+/// The graph of any words, with at most `states` states and `most` kernel items: refused for the block (1 to 6), the room (7),
+/// which leave the buffers as they were, or for one state more (8) or its items (9), which leave what is named zero.
 pub fn graph(
-    block: &[u32],
+    words: &[u32],
     states: usize,
     most: usize,
     items: &mut [u64],
@@ -159,23 +158,20 @@ pub fn graph(
     marks: &mut [u32],
     closed: &mut [u64],
     kernel: &mut [u64],
-) -> Graphed
-    ensures answer { answer_of result ≡ counted (graph_call block.now (named states most)
+) -> Result<Kept, GraphRefusal>
+    ensures answer { answer_of result ≡ counted (graph_call words.now (named states most)
         (lent items.old spans.old edges.old marks.old closed.old kernel.old)) }
     ensures buffers { lent items.new spans.new edges.new marks.new closed.new kernel.new
-        ≡ leaves block.now (named states most)
+        ≡ leaves words.now (named states most)
         (lent items.old spans.old edges.old marks.old closed.old kernel.old) }
 {
-    let n = number(check_block(block));
-    if n != 0 {
-        return Graphed::Refused(n);
-    }
+    let grammar = Grammar::check(words)?;
     let room = Room {
         states,
         items: most,
     };
     if room_short(
-        block,
+        grammar,
         room,
         items.len(),
         spans.len(),
@@ -184,7 +180,8 @@ pub fn graph(
         closed.len(),
         kernel.len(),
     ) {
-        return Graphed::Refused(7);
+        return Err(GraphRefusal::RoomShort);
     }
-    build(block, room, items, spans, edges, marks, closed, kernel)
+    let firsts = Firsts::new(grammar);
+    build(&firsts, room, items, spans, edges, marks, closed, kernel)
 }

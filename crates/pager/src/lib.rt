@@ -1,4 +1,4 @@
-// The state graph: weak compatibility, merge, placing, collection (pager.rs).
+//! The state graph: weak compatibility, merge, placing, collection.
 #![tactic(auto)]
 
 mod build;
@@ -7,10 +7,11 @@ mod collect;
 mod kernels;
 pub mod limits;
 mod place;
+mod refusal;
 mod room;
 mod zero;
 
-pub use call::{Graphed, Kept, graph, room_short};
+pub use call::{Kept, graph, room_short};
 pub use place::kernel_of;
+pub use refusal::GraphRefusal;
 pub use room::Room;
-pub use zero::{zero32, zero64};

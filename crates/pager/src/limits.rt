@@ -1,7 +1,7 @@
-// What a caller may name at most; specs/Held.antt has the same names.
+//! What a caller may name at most; specs/Held.antt has the same names.
 
-// Most states.
+/// Most states.
 pub const STATES: usize = 4096;
 
-// Most kernel items of all states.
+/// Most kernel items of all states.
 pub const ITEMS: usize = 65536;

@@ -1,4 +1,4 @@
-// Clearing of lent room.
+//! Clearing of lent room.
 ghost use Rattle.std.specs.Prelude.{◌≡◌, ◌*◌, ◌≤◌, length};
 ghost use Rattle.block.specs.Limits.{ITEM};
 ghost use Rattle.pager.specs.Call.{zeroed};
@@ -6,30 +6,7 @@ ghost use Rattle.pager.specs.Call.{zeroed};
 use crate::room::Room;
 use block::limits::ITEM;
 
-// The first n words are zero, and the rest is as it was.
-pub fn zero32(words: &mut [u32], n: usize)
-    requires { n ≤ length words.old }
-    ensures { words.new ≡ zeroed n words.old }
-{
-    let mut i = 0usize;
-    while i < n {
-        words[i] = 0;
-        i += 1;
-    }
-}
-
-pub fn zero64(words: &mut [u64], n: usize)
-    requires { n ≤ length words.old }
-    ensures { words.new ≡ zeroed n words.old }
-{
-    let mut k = 0usize;
-    while k < n {
-        words[k] = 0;
-        k += 1;
-    }
-}
-
-// The named parts that hold states are zero.
+/// The named parts that hold states are zero.
 pub fn clear_room(
     room: Room,
     width: usize,
@@ -44,8 +21,8 @@ pub fn clear_room(
     ensures edges { edges.new ≡ zeroed (room.states * width) edges.old }
     ensures marks { marks.new ≡ zeroed (2 * room.states) marks.old }
 {
-    zero64(items, ITEM * room.items);
-    zero32(spans, 2 * room.states);
-    zero32(edges, room.states * width);
-    zero32(marks, 2 * room.states);
+    items[..ITEM * room.items].fill(0);
+    spans[..2 * room.states].fill(0);
+    edges[..room.states * width].fill(0);
+    marks[..2 * room.states].fill(0);
 }

@@ -1,14 +1,13 @@
 -- A line of the list of refusals, and of any other list. Assumes nothing.
 use mathlib.Core.Bool.{Bool, true, false}
-use mathlib.Core.List.{List, [], ◌∷◌}
+use mathlib.Core.List.{List, [], ◌∷◌, head-eq_of_cons-eq, tail-eq_of_cons-eq}
 use mathlib.Core.Logic.{◌↔◌}
-use mathlib.Core.Path.{◌≡◌, refl, sym, ap, subst}
-use Prim.Native.Nat.{ℕ, zero, suc, ◌-◌, ◌<◌, ◌≤◌}
+use mathlib.Core.Path.{◌≡◌, sym, ap, ◌∙◌}
+use Prim.Native.Nat.{ℕ, zero, suc, ◌<◌, ◌≤◌}
 use native.Mathlib.Omega.{arith}
-use lib.ListN.{length, get_or, take, drop}
+use lib.ListN.{length}
 use Rattle.words.proofs.Answers.{says-no}
-use Rattle.words.proofs.PartLaws.{part-tail}
-use Rattle.replay.specs.Lists.{asked, lists, CaseOf, RUNS, REFUSALS, RefusalCase, LineCase}
+use Rattle.replay.specs.Lists.{asked, lists, CaseOf, RUNS, REFUSALS, LineCase}
 
 -- nothing is asked of a list behind the last
 none-asked : (Ps : List (List ℕ → Type 0)) (n : ℕ) (ws : List ℕ) → length Ps ≤ n → asked Ps n ws → ⊥
@@ -21,10 +20,6 @@ module _ (list : ℕ) (ws : List ℕ) where
   unfolding CaseOf
   no-list h = says-no (none-asked lists list ws h)
 
-  pub by-list : {r : Bool} (k : ℕ) → list ≡ k → (r ≡ true) ↔ asked lists k ws → (r ≡ true) ↔ CaseOf list ws
-  unfolding CaseOf
-  by-list {r} k e i = rw e i
-
   pub line-call : {r : Bool} → (list ≡ REFUSALS → ⊥) → (r ≡ true) ↔ CaseOf list ws → (r ≡ true) ↔ LineCase list ws
   line-call n i = (λ t. record { refusal = λ e. absurd (n e); call = λ _. i.0 t }, λ l. i.1 (l.call n))
 
@@ -32,23 +27,18 @@ module _ (list : ℕ) (ws : List ℕ) where
     pub line-empty : length ws ≡ 0 → (false ≡ true) ↔ LineCase list ws
     line-empty z = says-no (λ l. omega (arith, z, ap length (l.refusal e).words))
 
-    pub line_other : RUNS < get_or ws 0 0 → (false ≡ true) ↔ LineCase list ws
-    line_other h = says-no (λ l. let R = l.refusal e in omega (arith, h, R.refuses, ap (λ v. get_or v 0 0) R.words))
+    module _ (call : ℕ) (rest : List ℕ) (w : ws ≡ call ∷ rest) where
+      pub line_other : RUNS < call → (false ≡ true) ↔ LineCase list ws
+      line_other h = says-no (λ l. let R = l.refusal e in omega (arith, h, R.refuses, head-eq_of_cons-eq (sym w ∙ R.words)))
 
-    pub line-refusal : {r : Bool} → 1 ≤ length ws → get_or ws 0 0 ≤ RUNS → (r ≡ true) ↔ CaseOf (get_or ws 0 0) (take (length ws - 1) (drop 1 ws))
-        → (r ≡ true) ↔ LineCase list ws
-    line-refusal {r} h k i = (λ t. record { refusal = λ _. to ws refl h k (i.0 t); call = λ n. absurd (n e) }, λ l. i.1 (from (l.refusal e)))
-      where
-        to : (vs : List ℕ) → ws ≡ vs → 1 ≤ length vs → get_or ws 0 0 ≤ RUNS → CaseOf (get_or ws 0 0) (take (length ws - 1) (drop 1 ws)) → RefusalCase vs
-        to [] z h m k = absurd (omega arith)
-        to (c ∷ vs) z h m k =
-            record {
-              call = c;
-              rest = vs;
-              words = refl;
-              refuses = subst (λ l. get_or l 0 0 ≤ RUNS) z m;
-              holds = subst (λ l. CaseOf (get_or l 0 0) (drop 1 l)) z (rw (sym (part-tail 1 ws)) k);
-            }
-
-        from : RefusalCase ws → CaseOf (get_or ws 0 0) (take (length ws - 1) (drop 1 ws))
-        from R = rw (part-tail 1 ws, R.words) R.holds
+      pub line-refusal : {r : Bool} → call ≤ RUNS → (r ≡ true) ↔ CaseOf call rest → (r ≡ true) ↔ LineCase list ws
+      line-refusal k i = (
+        λ t. record {
+          refusal = λ _. record { call = call; rest = rest; words = w; refuses = k; holds = i.0 t };
+          call = λ n. absurd (n e);
+        },
+        λ l.
+            let R = l.refusal e in
+            let z = sym w ∙ R.words in
+            i.1 (rw (head-eq_of_cons-eq z, tail-eq_of_cons-eq z) R.holds),
+      )

@@ -1,34 +1,33 @@
 -- What a line that was read is, and one turn more of a count. Assumes nothing.
+use mathlib.Core.Bool.{Bool, true, false}
 use mathlib.Core.List.{List}
-use mathlib.Core.Path.{◌≡◌, sym, ap, subst, ◌∙◌}
+use mathlib.Core.Logic.{◌↔◌}
+use Rattle.std.specs.Prelude.{Option, Some, None, Result, Ok, Err}
+use mathlib.Core.Path.{◌≡◌, refl, sym, ap, subst, ◌∙◌}
 use Prim.Native.Nat.{ℕ, suc, ◌+◌, ◌-◌, ◌<◌}
 use native.Mathlib.Omega.{arith}
 use native.Mathlib.Numerals.{add-one}
 use lib.ListN.{replicate, take}
 use Rattle.words.specs.Lines.{line_from, line_of}
-use Rattle.words.specs.declared.scan.Line.{Line}
-use Rattle.words.specs.declared.scan.Line.TheVariants as line
+use Rattle.words.specs.declared.scan.Fault as words
+use Rattle.words.proofs.Answers.{differ}
 use Rattle.replay.specs.Lists.{LineCase}
-use Rattle.replay.specs.Tally.{LINE, line_at, CaseIs, Counted, spent, ended, faulted, held, differed}
-use Rattle.replay.specs.declared.lines.Case.TheVariants.{Holds, Differs, End, Fault}
+use Rattle.replay.specs.Tally.{LINE, line_at, case_of, CaseIs, Holds, Differs, End, Fault, Counted, spent, ended, faulted, held, differed}
 
-module _ (list : ℕ) (text : List ℕ) (k : ℕ) {r : Line} {out : List ℕ} (e : (line_of r, out) ≡ line_from text k (replicate LINE 0)) where
-  pub case-holds : (n p : ℕ) → r ≡ line.Numbers n p → LineCase list (take n out) → CaseIs list text k (Holds p)
+module _ (list : ℕ) (text : List ℕ) (k : ℕ) {r : Result (Option (ℕ × ℕ)) words.Fault} {out : List ℕ} (e : (line_of r, out) ≡ line_from text k (replicate LINE 0)) where
+  pub case-read : (n p : ℕ) (h : Bool) → r ≡ Ok (Some (n, p)) → (h ≡ true) ↔ LineCase list (take n out) → CaseIs list text k (case_of (Ok (Some (h, p))))
   unfolding line_at
-  case-holds n p q h = (n, ap (λ x. x.0) (sym e) ∙ ap line_of q, subst (λ o. LineCase list (take n o)) (ap (λ x. x.1) e) h)
+  case-read n p true q i = (n, ap (λ x. x.0) (sym e) ∙ ap line_of q, subst (λ o. LineCase list (take n o)) (ap (λ x. x.1) e) (i.0 refl))
+  case-read n p false q i =
+      (n, ap (λ x. x.0) (sym e) ∙ ap line_of q, λ l. differ (i.1 (subst (λ o. LineCase list (take n o)) (ap (λ x. x.1) (sym e)) l)))
 
-  pub case-differs : (n p : ℕ) → r ≡ line.Numbers n p → (LineCase list (take n out) → ⊥) → CaseIs list text k (Differs p)
-  unfolding line_at
-  case-differs n p q h =
-      (n, ap (λ x. x.0) (sym e) ∙ ap line_of q, λ l. h (subst (λ o. LineCase list (take n o)) (ap (λ x. x.1) (sym e)) l))
-
-  pub case-end : r ≡ line.End → CaseIs list text k End
+  pub case-end : r ≡ Ok None → CaseIs list text k End
   unfolding line_at
   case-end q = ap (λ x. x.0) (sym e) ∙ ap line_of q
 
-  pub case-fault : (p : ℕ) → r ≡ line.Fault p → CaseIs list text k (Fault p)
+  pub case-fault : (f : words.Fault) → r ≡ Err f → CaseIs list text k (Fault f.place)
   unfolding line_at
-  case-fault p q = ap (λ x. x.0) (sym e) ∙ ap line_of q
+  case-fault f q = ap (λ x. x.0) (sym e) ∙ ap line_of q
 
 -- ---- no turn more, or one more, counted as the code counts
 pub turn-spent : (list : ℕ) (text : List ℕ) (t k c d : ℕ) → t ≡ 0 → Counted list text t k c d k c d
@@ -53,7 +52,9 @@ module _ (list : ℕ) (text : List ℕ) (t k c d : ℕ) (h : 0 < t) where
         rw turn (differed (t - 1) k c d p q a w e
         (subst (λ x. Counted list text (t - 1) p x (suc d) q a w) (add-one c) (subst (λ x. Counted list text (t - 1) p (c + 1) x q a w) (add-one d) n)))
 
--- the same place and count, named otherwise
-pub moved : {list t c k k' d d' q a w : ℕ} {text : List ℕ} → k ≡ k' → d ≡ d' → Counted list text t k c d q a w → Counted list text t k' c d' q a w
-moved {list} {t} {c} {k} {k'} {d} {d'} {q} {a} {w} {text} e f n =
-    subst (λ x. Counted list text t k' c x q a w) f (subst (λ x. Counted list text t x c d q a w) e n)
+    -- a line that was read, whether it holds or not
+    pub turn-read : (h : Bool) (t' d' : ℕ) → t' ≡ t - 1 → (h ≡ true → d' ≡ d) × (h ≡ false → d' ≡ d + 1) → CaseIs list text k (case_of (Ok (Some (h, p))))
+        → Counted list text t' p (c + 1) d' q a w → Counted list text t k c d q a w
+    turn-read true t' d' z f e n = turn-held e (subst (λ x. Counted list text x p (c + 1) d q a w) z (subst (λ x. Counted list text t' p (c + 1) x q a w) (f.0 refl) n))
+    turn-read false t' d' z f e n =
+        turn-differed e (subst (λ x. Counted list text x p (c + 1) (d + 1) q a w) z (subst (λ x. Counted list text t' p (c + 1) x q a w) (f.1 refl) n))

@@ -1,10 +1,9 @@
 -- The lines of a text, one after another, up to its end or to what is no line: how many there are, and how many do not hold. Assumes nothing.
-use Rattle.std.specs.Prelude.{true, List, ◌↔◌, ◌≡◌, ℕ, zero, suc, length, replicate, take}
+use Rattle.std.specs.Prelude.{Bool, true, false, List, Option, Some, None, Result, Ok, Err, ◌↔◌, ◌≡◌, ℕ, zero, suc, length, replicate, take}
+use Rattle.words.specs.declared.scan.Fault as words
 use Rattle.words.specs.Words.{Read, number, end, fault, next_word}
 use Rattle.words.specs.Lines.{line_from}
 use Rattle.replay.specs.Lists.{LineCase}
-use Rattle.replay.specs.declared.lines.Case.{Case}
-use Rattle.replay.specs.declared.lines.Case.TheVariants.{Holds, Differs, End, Fault}
 use Rattle.replay.specs.declared.lines.Tally.{Tally}
 
 -- most numbers on a line
@@ -14,6 +13,19 @@ LINE = 16384
 -- the line that comes next from place k on
 unfoldable pub line_at : List ℕ → ℕ → Read × List ℕ
 line_at text k = line_from text k (replicate LINE 0)
+
+-- a line that holds, or that differs, and the place behind it; nothing but blanks; or the place of a fault
+pub data Case : Type 0 where
+  Holds : (place : ℕ) → Case
+  Differs : (place : ℕ) → Case
+  End : Case
+  Fault : (place : ℕ) → Case
+
+abbrev pub case_of : Result (Option (Bool × ℕ)) words.Fault → Case
+case_of (Ok (Some (true, p))) = Holds p
+case_of (Ok (Some (false, p))) = Differs p
+case_of (Ok None) = End
+case_of (Err f) = Fault f.place
 
 -- what the line from place k on is
 abbrev pub CaseIs : ℕ → List ℕ → ℕ → Case → Type 0

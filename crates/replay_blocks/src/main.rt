@@ -1,9 +1,10 @@
-// Replays the list of blocks.
+//! Replays the list of blocks.
 #![tactic(auto)]
 
+use replay::{List, replay};
 use std::io;
 
 fn main(rt: HostRuntime) -> io::Result<()> {
-    replay::replay(&rt, b"blocks: ", replay::BLOCKS)?;
+    replay(&rt, b"blocks: ", List::Blocks.number())?;
     Ok(())
 }

@@ -1,9 +1,10 @@
-// Replays the list of bodies.
+//! Replays the list of bodies.
 #![tactic(auto)]
 
+use replay::{List, replay};
 use std::io;
 
 fn main(rt: HostRuntime) -> io::Result<()> {
-    replay::replay(&rt, b"bodies: ", replay::BODIES)?;
+    replay(&rt, b"bodies: ", List::Bodies.number())?;
     Ok(())
 }

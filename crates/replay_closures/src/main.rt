@@ -1,9 +1,10 @@
-// Replays the list of closures.
+//! Replays the list of closures.
 #![tactic(auto)]
 
+use replay::{List, replay};
 use std::io;
 
 fn main(rt: HostRuntime) -> io::Result<()> {
-    replay::replay(&rt, b"closures: ", replay::CLOSURES)?;
+    replay(&rt, b"closures: ", List::Closures.number())?;
     Ok(())
 }

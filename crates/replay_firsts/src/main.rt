@@ -1,9 +1,10 @@
-// Replays the list of firsts.
+//! Replays the list of firsts.
 #![tactic(auto)]
 
+use replay::{List, replay};
 use std::io;
 
 fn main(rt: HostRuntime) -> io::Result<()> {
-    replay::replay(&rt, b"firsts: ", replay::FIRSTS)?;
+    replay(&rt, b"firsts: ", List::Firsts.number())?;
     Ok(())
 }

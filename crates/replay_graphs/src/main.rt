@@ -1,9 +1,10 @@
-// Replays the list of graphs.
+//! Replays the list of graphs.
 #![tactic(auto)]
 
+use replay::{List, replay};
 use std::io;
 
 fn main(rt: HostRuntime) -> io::Result<()> {
-    replay::replay(&rt, b"graphs: ", replay::GRAPHS)?;
+    replay(&rt, b"graphs: ", List::Graphs.number())?;
     Ok(())
 }

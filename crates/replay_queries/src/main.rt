@@ -1,9 +1,10 @@
-// Replays the list of queries.
+//! Replays the list of queries.
 #![tactic(auto)]
 
+use replay::{List, replay};
 use std::io;
 
 fn main(rt: HostRuntime) -> io::Result<()> {
-    replay::replay(&rt, b"queries: ", replay::QUERIES)?;
+    replay(&rt, b"queries: ", List::Queries.number())?;
     Ok(())
 }

@@ -1,9 +1,10 @@
-// Replays the list of refusals.
+//! Replays the list of refusals.
 #![tactic(auto)]
 
+use replay::{List, replay};
 use std::io;
 
 fn main(rt: HostRuntime) -> io::Result<()> {
-    replay::replay(&rt, b"refusals: ", replay::REFUSALS)?;
+    replay(&rt, b"refusals: ", List::Refusals.number())?;
     Ok(())
 }

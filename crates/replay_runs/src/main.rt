@@ -1,9 +1,10 @@
-// Replays the list of runs.
+//! Replays the list of runs.
 #![tactic(auto)]
 
+use replay::{List, replay};
 use std::io;
 
 fn main(rt: HostRuntime) -> io::Result<()> {
-    replay::replay(&rt, b"runs: ", replay::RUNS)?;
+    replay(&rt, b"runs: ", List::Runs.number())?;
     Ok(())
 }

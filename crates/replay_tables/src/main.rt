@@ -1,9 +1,10 @@
-// Replays the list of tables.
+//! Replays the list of tables.
 #![tactic(auto)]
 
+use replay::{List, replay};
 use std::io;
 
 fn main(rt: HostRuntime) -> io::Result<()> {
-    replay::replay(&rt, b"tables: ", replay::TABLES)?;
+    replay(&rt, b"tables: ", List::Tables.number())?;
     Ok(())
 }

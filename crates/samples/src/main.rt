@@ -1,41 +1,37 @@
-// The blocks of document 01's samples: what the check says of each, and its right sides. A write that fails ends the program
-// with its error.
+//! The blocks of document 01's samples: what the check says of each, and its right sides. A write that fails ends the program
+//! with its error.
 #![tactic(auto)]
 
-use block::{body, body_refusal, check_block, number};
+use block::{Grammar, body, body_refusal};
 use std::io;
 
-fn tell_word(rt: &impl Print, word: u32) -> io::Result<()> {
-    print!(rt; " {word}")
-}
-
-fn tell_words(rt: &impl Print, words: &[u32]) -> io::Result<()> {
-    for word in words {
-        tell_word(rt, *word)?;
-    }
-    Ok(())
-}
-
+/// What a check says: good, or the number of the refusal.
 fn tell(rt: &impl Print, refusal: u32) -> io::Result<()> {
     if refusal == 0 {
         print!(rt; " good")
     } else {
-        tell_word(rt, refusal)
+        print!(rt; " {refusal}")
     }
 }
 
-// The number of production p's query, and its right side.
+/// The number of production p's query, and its right side.
 fn tell_body(rt: &impl Print, block: &[u32], p: usize) -> io::Result<()> {
     print!(rt; "  {p}:")?;
     tell(rt, body_refusal(block, p))?;
-    tell_words(rt, body(block, p))?;
+    for symbol in body(block, p) {
+        print!(rt; " {symbol}")?;
+    }
     println!(rt; "")
 }
 
-// The productions of G1, and one that it does not have.
+/// The productions of G1, and one that it does not have.
 fn show(rt: &impl Print, name: &str, block: &[u32]) -> io::Result<()> {
     print!(rt; "{name}:")?;
-    tell(rt, number(check_block(block)))?;
+    let refusal = match Grammar::check(block) {
+        Ok(_) => 0,
+        Err(refusal) => refusal.number(),
+    };
+    tell(rt, refusal)?;
     println!(rt; "")?;
     tell_body(rt, block, 0)?;
     tell_body(rt, block, 1)?;

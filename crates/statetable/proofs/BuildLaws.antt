@@ -7,6 +7,9 @@ use native.Mathlib.Omega.{arith}
 use lib.ListN.{length}
 use Rattle.block.specs.Block.{tokens, rules, prods}
 use Rattle.block.specs.Refusal.{refusal_of}
+use Rattle.block.specs.Refused.{number_of}
+use Rattle.block.specs.declared.refusal.BlockRefusal.{BlockRefusal}
+use Rattle.block.specs.declared.refusal.BlockRefusal.TheVariants.{BadHeader, TooLarge, BadProduction, BadStart, BadSymbol, BadPrecedence}
 use Rattle.pager.specs.Lists.{refused, unless, unchanged}
 use Rattle.pager.specs.Held.{STATES}
 use Rattle.pager.specs.Call as graph
@@ -94,6 +97,15 @@ module _ {b : List ℕ} {n : Named} {l : Buffers} (R : Roomy b n l) where
 
   pub tables-room : Tables b n l
   tables-room = tables-roomy b n l long.1
+
+-- a refusal of a block has a number above 0
+pub some-number : (e : BlockRefusal) → number_of e ≡ 0 → ⊥
+some-number BadHeader e = absurd (omega arith)
+some-number TooLarge e = absurd (omega arith)
+some-number BadProduction e = absurd (omega arith)
+some-number BadStart e = absurd (omega arith)
+some-number BadSymbol e = absurd (omega arith)
+some-number BadPrecedence e = absurd (omega arith)
 
 -- ---- the ways out
 module _ (b : List ℕ) (n : Named) (l : Buffers) where

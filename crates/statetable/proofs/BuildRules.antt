@@ -7,10 +7,12 @@ use Prim.Native.Nat.{ℕ, zero, suc, ◌/◌, ◌%◌, ◌≤◌}
 use native.Mathlib.Omega.{arith}
 use lib.Dec.{ltb, eqb}
 use lib.ListN.{length, get_or}
+use Rattle.std.specs.Prelude.{Some, None, Result, Ok, Err}
 use Rattle.knuth.specs.Tables.{Action}
 use Rattle.block.specs.Block.{token_prec, end_token_of, start_prod}
 use Rattle.block.specs.Refusal.{refusal_of}
 use Rattle.block.specs.First.{Ahead, firsts_of}
+use Rattle.block.specs.declared.refusal.BlockRefusal.TheVariants.{BadHeader, TooLarge, BadProduction, BadStart, BadSymbol, BadPrecedence}
 use Rattle.pager.specs.Lists.{Answer, is, refused, walk, unless}
 use Rattle.pager.specs.Place.{State}
 use Rattle.pager.specs.Graph.{graph_of}
@@ -28,8 +30,8 @@ use Rattle.statetable.specs.BuildRules.{Numbered, ClaimNumbers, ClaimOne}
 use Rattle.statetable.specs.declared.records.Caps.{Caps}
 use Rattle.statetable.specs.declared.call.Named.{Named}
 use Rattle.statetable.specs.declared.call.Counts.{Counts}
-use Rattle.statetable.specs.declared.call.StateTable.{StateTable}
-use Rattle.statetable.specs.declared.call.StateTable.TheVariants.{Made, Refused, AcceptSome, AcceptNone, MixedKinds}
+use Rattle.statetable.specs.declared.refusal.BuildRefusal.{BuildRefusal}
+use Rattle.statetable.specs.declared.refusal.BuildRefusal.TheVariants.{Block, RoomShort, StateRoom, ItemRoom, ConflictRoom, AcceptReduce, MixedKinds}
 use Rattle.statetable.proofs.BuildLaws.{let-in, no-refusal, graph_long}
 
 -- a refusal has one of the numbers, with its values
@@ -160,27 +162,49 @@ build-numbers b n l why e = says (build_call b n l) why (go (turned_away b n l) 
 
 -- ---- one outcome
 -- the answer read back
-abbrev accepting : ℕ → ℕ → StateTable
-accepting zero p = AcceptNone p
-accepting (suc r) p = AcceptSome r p
+abbrev numbered : ℕ → BuildRefusal
+numbered zero = ConflictRoom
+numbered (suc zero) = Block BadHeader
+numbered (suc (suc zero)) = Block TooLarge
+numbered (suc (suc (suc zero))) = Block BadProduction
+numbered (suc (suc (suc (suc zero)))) = Block BadStart
+numbered (suc (suc (suc (suc (suc zero))))) = Block BadSymbol
+numbered (suc (suc (suc (suc (suc (suc zero)))))) = Block BadPrecedence
+numbered (suc (suc (suc (suc (suc (suc (suc zero))))))) = RoomShort
+numbered (suc (suc (suc (suc (suc (suc (suc (suc zero)))))))) = StateRoom
+numbered (suc (suc (suc (suc (suc (suc (suc (suc (suc zero))))))))) = ItemRoom
+numbered (suc (suc (suc (suc (suc (suc (suc (suc (suc (suc k)))))))))) = ConflictRoom
 
-abbrev told-by : ℕ → List ℕ → StateTable
-told-by n [] = Refused n
-told-by n (x ∷ []) = Refused n
+abbrev accepting : ℕ → ℕ → BuildRefusal
+accepting zero p = AcceptReduce None p
+accepting (suc r) p = AcceptReduce (Some r) p
+
+abbrev told-by : ℕ → List ℕ → BuildRefusal
+told-by n [] = numbered n
+told-by n (x ∷ []) = ConflictRoom
 told-by n (x ∷ y ∷ []) = accepting x y
 told-by n (x ∷ y ∷ z ∷ zs) = MixedKinds x y z
 
-abbrev read_back : Answer Counts → StateTable
-read_back (is k) = Made k
-read_back (refused []) = Refused 0
-read_back (refused (n ∷ xs)) = told-by n xs
+abbrev read_back : Answer Counts → Result Counts BuildRefusal
+read_back (is k) = Ok k
+read_back (refused []) = Err ConflictRoom
+read_back (refused (n ∷ xs)) = Err (told-by n xs)
 
-reads : (r : StateTable) → read_back (answer_of r) ≡ r
-reads (Made k) = refl
-reads (Refused n) = refl
-reads (AcceptSome r p) = refl
-reads (AcceptNone p) = refl
-reads (MixedKinds t p s) = refl
+reads : (r : Result Counts BuildRefusal) → read_back (answer_of r) ≡ r
+reads (Ok k) = refl
+reads (Err (Block BadHeader)) = refl
+reads (Err (Block TooLarge)) = refl
+reads (Err (Block BadProduction)) = refl
+reads (Err (Block BadStart)) = refl
+reads (Err (Block BadSymbol)) = refl
+reads (Err (Block BadPrecedence)) = refl
+reads (Err RoomShort) = refl
+reads (Err StateRoom) = refl
+reads (Err ItemRoom) = refl
+reads (Err ConflictRoom) = refl
+reads (Err (AcceptReduce (Some r) p)) = refl
+reads (Err (AcceptReduce None p)) = refl
+reads (Err (MixedKinds t p s)) = refl
 
 pub one-outcome : ClaimOne
 one-outcome b n before r r' after after' A B =

@@ -1,6 +1,5 @@
 -- Reading and writing a cell. Assumes nothing.
 use mathlib.Core.Path.{◌≡◌, refl, sym, ap, ◌∙◌}
-use mathlib.Core.Logic.{◌≢◌}
 use Prim.Native.Nat.{ℕ, ◌+◌, ◌*◌, ◌/◌, ◌%◌}
 use native.Mathlib.Omega.{arith}
 use Rattle.knuth.specs.Tables.{Action}
@@ -9,11 +8,6 @@ use Rattle.statetable.specs.Cell.{of_kind, decode, encode}
 pub decode-at : (w k : ℕ) → w % 4 ≡ k → of_kind k (w / 4) ≡ decode w
 unfolding decode
 decode-at w k e = ap (λ j. of_kind j (w / 4)) (sym e)
-
-pub decode-last : (w : ℕ) → w % 4 ≢ 0 → w % 4 ≢ 1 → w % 4 ≢ 2 → Action.accept ≡ decode w
-decode-last w a b c =
-    let e : w % 4 ≡ 3 = omega arith in
-    decode-at w 3 e
 
 -- what is written is read
 pub decode-encode : (a : Action) → decode (encode a) ≡ a

@@ -1,19 +1,19 @@
 -- The events that are still to come: from a token edge on, from a token of a complete item on, from a closed row on. Assumes nothing.
 use mathlib.Core.Bool.{Bool, true, false, cond}
 use mathlib.Core.List.{List, [], ◌∷◌, ◌++◌, map}
-use mathlib.Core.Path.{◌≡◌, refl, sym, ap, ◌∙◌, subst}
+use mathlib.Core.Path.{◌≡◌, refl, sym, ap, ◌∙◌}
 use Prim.Native.Nat.{ℕ, zero, suc, ◌+◌, ◌-◌, ◌*◌, ◌/◌, ◌%◌, ◌≤◌, ◌<◌}
 use native.Mathlib.Decide.{dec_lt}
 use native.Mathlib.Numerals.{add-one}
 use native.Mathlib.Omega.{arith}
 use lib.ListN.{length, get_or, take, drop, drop_of_length-le, length-drop}
 use lib.Seq.{drop-cons}
-use Rattle.block.specs.Limits.{WORDS, ITEM, DOTS, TOKENS}
+use Rattle.block.specs.Limits.{WORDS, ITEM, DOTS}
 use Rattle.block.specs.Lists.{keep, from, upto}
 use Rattle.block.specs.Block.{tokens, length_of, body_of}
 use Rattle.block.specs.Refusal.{Good}
-use Rattle.block.specs.Sets.{mem, In, next_of, members}
-use Rattle.block.proofs.Next.{NoneIn, next-from, next_le, next-none, next-in}
+use Rattle.block.specs.Sets.{mem, In, members}
+use Rattle.block.proofs.Next.{NoneIn}
 use Rattle.itemset.specs.Rows.{Row, row}
 use Rattle.itemset.specs.Close.{rest_of}
 use Rattle.itemset.specs.Lent.{RowsIn}
@@ -87,11 +87,10 @@ module _ (n : ℕ) (ws : List ℕ) where
       ∙ ap members_from (let z : suc t + k ≡ t + suc k = omega arith in z)
 
   -- none is left out up to the next member
-  pub members-next : (t : ℕ) → members_from t ≡ members_from (next_of ws t)
-  members-next t =
-      let r : ℕ = next_of ws t in
-      let e : t + (r - t) ≡ r = (let g = next-from ws t in omega arith) in
-      skip (r - t) t (λ u a d. next-none ws t u a (omega arith)) ∙ ap members_from e
+  pub members-next : (t u : ℕ) → t ≤ u → NoneIn ws t u → members_from t ≡ members_from u
+  members-next t u l h =
+      let e : t + (u - t) ≡ u = omega arith in
+      skip (u - t) t (λ v a d. h v a (omega arith)) ∙ ap members_from e
 
 -- a complete item of production p, from token t on
 module _ (n : ℕ) (ws : List ℕ) (p : ℕ) where
@@ -101,25 +100,26 @@ module _ (n : ℕ) (ws : List ℕ) (p : ℕ) where
   unfoldable pub tokens_from : ℕ → List Event
   tokens_from t = completes_at (members_from n ws t)
 
-  pub tokens-all : (t : ℕ) → t ≡ next_of ws 0 → completes_at (members n ws) ≡ tokens_from t
+  pub tokens-all : completes_at (members n ws) ≡ tokens_from 0
   unfolding tokens_from
-  tokens-all t e = ap completes_at (members-all n ws ∙ members-next n ws 0 ∙ ap (members_from n ws) (sym e))
+  tokens-all = ap completes_at (members-all n ws)
 
-  pub tokens-end : (t : ℕ) → n ≤ t → tokens_from t ≡ []
+  -- u is the next member
+  module _ (t u : ℕ) (l : t ≤ u) (h : NoneIn ws t u) where
+    pub tokens-next : (t' : ℕ) → u < n → In ws u → t' ≡ u + 1 → tokens_from t ≡ completes u p ∷ tokens_from t'
+    unfolding tokens_from
+    tokens-next t' k i e =
+        ap completes_at (members-next n ws t u l h ∙ members-here n ws u k i)
+        ∙ ap {B = List Event} (λ (j : ℕ). completes u p ∷ completes_at (members_from n ws j)) (sym (e ∙ add-one u))
+
+    pub tokens-past : n ≤ u → tokens_from t ≡ []
+    unfolding tokens_from
+    tokens-past k = ap completes_at (members-next n ws t u l h ∙ members-end n ws u k)
+
+  -- there is none
+  pub tokens-end : (t : ℕ) → ((u : ℕ) → t ≤ u → mem ws u ≡ false) → tokens_from t ≡ []
   unfolding tokens_from
-  tokens-end t l = ap completes_at (members-end n ws t l)
-
-  pub tokens-next : (t t' : ℕ) → t < n → In ws t → t' ≡ next_of ws (t + 1) → tokens_from t ≡ completes t p ∷ tokens_from t'
-  unfolding tokens_from
-  tokens-next t t' l h e =
-      ap completes_at (members-here n ws t l h)
-      ∙ ap {B = List Event} (λ ts. completes t p ∷ completes_at ts)
-      (ap (members_from n ws) (sym (add-one t)) ∙ members-next n ws (t + 1) ∙ ap (members_from n ws) (sym e))
-
--- what the next member is known to be
-pub next-told : (ws : List ℕ) (k t : ℕ) → t ≡ next_of ws k → k ≤ TOKENS → (t ≤ TOKENS) × (t < TOKENS → In ws t)
-next-told ws k t e l =
-    (subst (λ (j : ℕ). j ≤ TOKENS) (sym e) (next_le ws k l), subst (λ (j : ℕ). j < TOKENS → In ws j) (sym e) (next-in ws k))
+  tokens-end t h = ap completes_at (members-next n ws t (t + n) (omega arith) (λ u a d. h u a) ∙ members-end n ws (t + n) (omega arith))
 
 -- ---- rows, from row i on
 pub rows_in : {b ws : List ℕ} {C : List Row} → Good b → ForRow b ws C → RowsIn b ws C

@@ -1,30 +1,27 @@
 -- The first words of lent rooms: zero before, then the tables, then zero behind them. Assumes nothing.
-use mathlib.Core.Bool.{Bool}
+use mathlib.Core.Bool.{true, false, true≢false}
 use mathlib.Core.List.{List, ◌++◌, append_assoc}
-use mathlib.Core.Path.{◌≡◌, sym, ap, ◌∙◌, subst}
-use Prim.Native.Nat.{ℕ, ◌+◌, ◌-◌, ◌*◌, ◌^◌, ◌<◌, ◌≤◌}
+use mathlib.Core.Path.{◌≡◌, sym, ap, ◌∙◌}
+use Prim.Native.Nat.{ℕ, ◌+◌, ◌-◌, ◌*◌, ◌≤◌}
 use native.Mathlib.Nat.{mul-le-mul_right}
 use native.Mathlib.Omega.{arith}
 use lib.ListN.{length, take, drop, replicate, length-append, length-drop, length-replicate, replicate-append-replicate}
 use lib.Seq.{take_at, drop_at, drop-drop, length-take-le, length_front}
-use Rattle.block.specs.Limits.{ITEM, TOKENS, RULES}
+use Rattle.std.specs.Prelude.{Result, Ok, Err, is_err}
 use Rattle.block.specs.Block.{tokens}
-use Rattle.block.specs.Answer.{sizes_of}
-use Rattle.block.specs.declared.check.Sizes.{Sizes}
-use Rattle.block.specs.First.{firsts_of, Stored}
-use Rattle.block.proofs.Good.{placed}
+use Rattle.block.specs.First.{firsts_of}
 use Rattle.pager.specs.Lists.{each, Answer, is, refused}
 use Rattle.pager.specs.Place.{State}
 use Rattle.pager.specs.Memory.{pad}
 use Rattle.pager.specs.Building.{Scratch}
 use Rattle.pager.specs.Call.{closed_part, zeroed}
-use Rattle.pager.proofs.CallLaws.{symbols-fit, edge-part}
-use Rattle.statetable.specs.Limits.{RECORDS, RR, SR}
+use Rattle.statetable.specs.Limits.{RR, SR}
 use Rattle.statetable.specs.Cells.{Rows, cells_of}
 use Rattle.statetable.specs.Laid.{words_rr, words_sr}
 use Rattle.statetable.specs.ForTables.{flat, ForStates, FilledBy, ForNamed, NamedBy, ForTables, TablesFilled}
 use Rattle.statetable.specs.declared.records.Caps.{Caps}
 use Rattle.statetable.specs.declared.records.Tally.{Tally}
+use Rattle.statetable.specs.declared.refusal.BuildRefusal.{BuildRefusal}
 use Rattle.statetable.proofs.RowByRow.{rows-length}
 
 -- ---- room whose first N words are zero
@@ -109,13 +106,11 @@ module _ {b : List ℕ} {m : Caps} {n : ℕ} {items spans edges closed actions o
   pub sr-long : SR * m.sr ≤ length sr
   sr-long = zeroed-long (SR * m.sr) sr S.sr-are
 
-  pub named-states : (nullable : List Bool) (first : List ℕ) → Stored (firsts_of b) nullable first
-      → ForStates b m n nullable first items spans edges (take (closed_part b) closed) (take (n * tokens b) actions) (take (n * tokens b) offered)
+  pub named-states : ForStates b m n items spans edges (take (closed_part b) closed) (take (n * tokens b) actions) (take (n * tokens b) offered)
       (take (RR * m.rr) rr) (take (SR * m.sr) sr) ss
-  named-states nullable first f =
+  named-states =
       record {
         good = S.good;
-        firsts = f;
         graph = S.graph;
         number = S.number;
         room = omega (arith, length-take-le (closed_part b) closed S.closed-room);
@@ -127,12 +122,13 @@ module _ {b : List ℕ} {m : Caps} {n : ℕ} {items spans edges closed actions o
         sr-are = zeroed-front (SR * m.sr) sr S.sr-are;
       }
 
-  pub named_by : (a : Answer Rows) (r : Tally) (actions' offered' rr' sr' : List ℕ) → FilledBy a b m n r actions' offered' rr' sr'
+  pub named_by : (a : Answer Rows) (r : Result Tally BuildRefusal) (actions' offered' rr' sr' : List ℕ) → FilledBy a b m n r actions' offered' rr' sr'
       → length actions' ≡ length (take (n * tokens b) actions) → length offered' ≡ length (take (n * tokens b) offered)
       → length rr' ≡ length (take (RR * m.rr) rr) → length sr' ≡ length (take (SR * m.sr) sr)
       → NamedBy a b m n r actions offered rr sr (actions' ++ drop (n * tokens b) actions) (offered' ++ drop (n * tokens b) offered)
       (rr' ++ drop (RR * m.rr) rr) (sr' ++ drop (SR * m.sr) sr)
-  named_by (is d) r actions' offered' rr' sr' F p q u v =
+  named_by (is d) (Err e) actions' offered' rr' sr' F p q u v = absurd F
+  named_by (is d) (Ok k) actions' offered' rr' sr' F p q u v =
       record {
         tally = F.listed.counts;
         rows = F.rows;
@@ -151,58 +147,22 @@ module _ {b : List ℕ} {m : Caps} {n : ℕ} {items spans edges closed actions o
       }
 
   -- ---- by the sizes that the code reads
-  module _ (z : Sizes) (e : z ≡ sizes_of b) where
-    pub closed_in : ITEM * (z.symbols + z.prods) ≤ length closed
-    closed_in = subst (λ (y : Sizes). ITEM * (y.symbols + y.prods) ≤ length closed) (sym e) S.closed-room
+  module _ (t w : ℕ) (t-is : t ≡ tokens b) (w-is : w ≡ closed_part b) where
+    pub closed_in : w ≤ length closed
+    closed_in = omega (arith, S.closed-room)
 
-    pub actions-in : n * z.tokens ≤ length actions
-    actions-in = subst (λ (y : Sizes). n * y.tokens ≤ length actions) (sym e) actions-long
+    pub states-of : ForStates b m n items spans edges (take w closed) (take (n * t) actions) (take (n * t) offered) (take (RR * m.rr) rr) (take (SR * m.sr) sr) ss
+    states-of = rw (t-is, w-is) named-states
 
-    pub offered-in : n * z.tokens ≤ length offered
-    offered-in = subst (λ (y : Sizes). n * y.tokens ≤ length offered) (sym e) offered-long
-
-    pub cells_fit : n * z.tokens < 2 ^ 64
-    cells_fit =
-        let f = S.graph.few in
-        let q = S.number in
-        let t : z.tokens ≤ RULES + TOKENS = omega (arith, ap (λ (y : Sizes). y.tokens) e, (placed S.good).tokens-most) in
-        omega (arith, edge-part n z.tokens (omega arith) t)
-
-    pub sum_fits : z.symbols + z.prods < 2 ^ 64
-    sum_fits = omega (arith, symbols-fit S.good z e)
-
-    pub work-fits : ITEM * (z.symbols + z.prods) < 2 ^ 64
-    work-fits = omega (arith, symbols-fit S.good z e)
-
-    pub states-of : (nullable : List Bool) (first : List ℕ) → Stored (firsts_of b) nullable first
-        → ForStates b m n nullable first items spans edges (take (ITEM * (z.symbols + z.prods)) closed) (take (n * z.tokens) actions)
-        (take (n * z.tokens) offered) (take (RR * m.rr) rr) (take (SR * m.sr) sr) ss
-    states-of nullable first f =
-        subst (λ (y : Sizes). ForStates b m n nullable first items spans edges (take (ITEM * (y.symbols + y.prods)) closed) (take (n * y.tokens) actions)
-        (take (n * y.tokens) offered) (take (RR * m.rr) rr) (take (SR * m.sr) sr) ss) (sym e) (named-states nullable first f)
-
-    pub named-of : (r : Tally) (actions' offered' rr' sr' : List ℕ) → FilledBy (cells_of b (firsts_of b) m ss) b m n r actions' offered' rr' sr'
-        → length actions' ≡ length (take (n * z.tokens) actions) → length offered' ≡ length (take (n * z.tokens) offered)
+    pub named-of : (r : Result Tally BuildRefusal) (actions' offered' rr' sr' : List ℕ) → FilledBy (cells_of b (firsts_of b) m ss) b m n r actions' offered' rr' sr'
+        → length actions' ≡ length (take (n * t) actions) → length offered' ≡ length (take (n * t) offered)
         → length rr' ≡ length (take (RR * m.rr) rr) → length sr' ≡ length (take (SR * m.sr) sr)
-        → NamedBy (cells_of b (firsts_of b) m ss) b m n r actions offered rr sr (actions' ++ drop (n * z.tokens) actions) (offered' ++ drop (n * z.tokens) offered)
+        → NamedBy (cells_of b (firsts_of b) m ss) b m n r actions offered rr sr (actions' ++ drop (n * t) actions) (offered' ++ drop (n * t) offered)
         (rr' ++ drop (RR * m.rr) rr) (sr' ++ drop (SR * m.sr) sr)
-    named-of r actions' offered' rr' sr' F =
-        subst (λ (y : Sizes). length actions' ≡ length (take (n * y.tokens) actions) → length offered' ≡ length (take (n * y.tokens) offered)
-        → length rr' ≡ length (take (RR * m.rr) rr) → length sr' ≡ length (take (SR * m.sr) sr)
-        → NamedBy (cells_of b (firsts_of b) m ss) b m n r actions offered rr sr (actions' ++ drop (n * y.tokens) actions) (offered' ++ drop (n * y.tokens) offered)
-        (rr' ++ drop (RR * m.rr) rr) (sr' ++ drop (SR * m.sr) sr)) (sym e) (named_by (cells_of b (firsts_of b) m ss) r actions' offered' rr' sr' F)
+    named-of r actions' offered' rr' sr' F = rw t-is (named_by (cells_of b (firsts_of b) m ss) r actions' offered' rr' sr' F)
 
-    pub closed-zeroed : (ws ys : List ℕ) → length ws ≡ length (take (ITEM * (z.symbols + z.prods)) closed)
-        → ys ≡ zeroed (ITEM * (z.symbols + z.prods)) (ws ++ drop (ITEM * (z.symbols + z.prods)) closed) → ys ≡ zeroed (closed_part b) closed
-    closed-zeroed ws ys q f =
-        front-zeroed (ITEM * (z.symbols + z.prods)) closed ws closed_in q ys f
-        ∙ ap (λ (y : Sizes). zeroed (ITEM * (y.symbols + y.prods)) closed) e
-
-  pub rr-fits : RR * m.rr < 2 ^ 64
-  rr-fits = let h = S.rr-fair in omega arith
-
-  pub sr-fits : SR * m.sr < 2 ^ 64
-  sr-fits = let h = S.sr-fair in omega arith
+    pub closed-zeroed : (ws ys : List ℕ) → length ws ≡ length (take w closed) → ys ≡ zeroed w (ws ++ drop w closed) → ys ≡ zeroed (closed_part b) closed
+    closed-zeroed ws ys q f = front-zeroed w closed ws closed_in q ys f ∙ ap (λ (k : ℕ). zeroed k closed) w-is
 
 -- ---- fill_tables
 pub at_named : (c N : ℕ) (xs : List ℕ) {ys : List ℕ} → c ≡ N → ys ≡ zeroed c xs → ys ≡ zeroed N xs
@@ -212,28 +172,6 @@ module _ {b : List ℕ} {m : Caps} {most n : ℕ} {items spans edges closed acti
     (S : ForTables b m most n items spans edges closed actions offered rr sr ss) where
   fewer : n * tokens b ≤ most * tokens b
   fewer = mul-le-mul_right {m = n} {n = most} (tokens b) S.fit
-
-  module _ (z : Sizes) (e : z ≡ sizes_of b) where
-    pub most-are : most * z.tokens ≡ most * tokens b
-    most-are = ap (λ (y : Sizes). most * y.tokens) e
-
-    pub most-fits : most * z.tokens < 2 ^ 64
-    most-fits =
-        let h = S.fair in
-        let t : z.tokens ≤ RULES + TOKENS = omega (arith, ap (λ (y : Sizes). y.tokens) e, (placed S.good).tokens-most) in
-        omega (arith, edge-part most z.tokens h t)
-
-    -- rooms as long as they were can be cleared
-    pub clearable : (a o r s : List ℕ) → length a ≡ length actions → length o ≡ length offered → length r ≡ length rr → length s ≡ length sr
-        → (most * z.tokens ≤ length a) × (most * z.tokens ≤ length o) × (m.rr ≤ RECORDS) × (m.sr ≤ RECORDS) × (RR * m.rr ≤ length r) × (SR * m.sr ≤ length s)
-    clearable a o r s la lo lr ls = (
-      omega (arith, S.actions-room, most-are),
-      omega (arith, S.offered-room, most-are),
-      S.rr-fair,
-      S.sr-fair,
-      omega (arith, S.rr-room),
-      omega (arith, S.sr-room),
-    )
 
   -- the rooms are cleared
   module _ {actions₁ offered₁ rr₁ sr₁ : List ℕ} (ea : actions₁ ≡ zeroed (most * tokens b) actions) (eo : offered₁ ≡ zeroed (most * tokens b) offered)
@@ -253,11 +191,11 @@ module _ {b : List ℕ} {m : Caps} {most n : ℕ} {items spans edges closed acti
           sr-are = zeroed-less (SR * m.sr) sr es (SR * m.sr) (omega arith);
         }
 
-    module _ (r : Tally) (actions' offered' rr' sr' : List ℕ) where
+    module _ (actions' offered' rr' sr' : List ℕ) where
       -- all states are filled
-      pub tables-all : (a : Answer Rows) → NamedBy a b m n r actions₁ offered₁ rr₁ sr₁ actions' offered' rr' sr' → length offered' ≡ length offered₁
-          → r.stop ≡ 0 → TablesFilled a b m most n r actions offered rr sr actions' offered' rr' sr'
-      tables-all (is d) N q z =
+      pub tables-all : (a : Answer Rows) (r : Result Tally BuildRefusal) → NamedBy a b m n r actions₁ offered₁ rr₁ sr₁ actions' offered' rr' sr'
+          → length offered' ≡ length offered₁ → is_err r ≡ false → TablesFilled a b m most n r actions offered rr sr actions' offered' rr' sr'
+      tables-all (is d) (Ok k) N q z =
           record {
             tally = N.tally;
             rows = N.rows;
@@ -269,19 +207,23 @@ module _ {b : List ℕ} {m : Caps} {most n : ℕ} {items spans edges closed acti
             rr-are = N.rr-are ∙ ap (λ (t : List ℕ). pad (RR * m.rr) (each words_rr d.told.rr) ++ t) (zeroed-behind (RR * m.rr) rr er);
             sr-are = N.sr-are ∙ ap (λ (t : List ℕ). pad (SR * m.sr) (each words_sr d.told.sr) ++ t) (zeroed-behind (SR * m.sr) sr es);
           }
-      tables-all (refused why) N q z = absurd (let h = N.stopped.some in omega arith)
+      tables-all (is d) (Err e) N q z = absurd N
+      tables-all (refused why) (Ok k) N q z = absurd N.stopped
+      tables-all (refused why) (Err e) N q z = absurd (true≢false z)
 
       -- it had to stop, and all is cleared again
-      pub tables-stop : (a : Answer Rows) → NamedBy a b m n r actions₁ offered₁ rr₁ sr₁ actions' offered' rr' sr' → (r.stop ≡ 0 → ⊥)
-          → (actions'' offered'' rr'' sr'' : List ℕ) → actions'' ≡ zeroed (most * tokens b) actions' → offered'' ≡ zeroed (most * tokens b) offered'
-          → rr'' ≡ zeroed (RR * m.rr) rr' → sr'' ≡ zeroed (SR * m.sr) sr' → TablesFilled a b m most n r actions offered rr sr actions'' offered'' rr'' sr''
-      tables-stop (is d) N z actions'' offered'' rr'' sr'' fa fo fr fs = absurd (z (ap (λ (k : Tally). k.stop) N.tally))
-      tables-stop (refused why) N z actions'' offered'' rr'' sr'' fa fo fr fs =
-          record {
-            tally = N.stopped;
-            rows = tt;
-            actions-are = zeroed-again (most * tokens b) actions ea (n * tokens b) fewer N.actions-behind fa;
-            offered-are = zeroed-again (most * tokens b) offered eo (n * tokens b) fewer N.offered-behind fo;
-            rr-are = zeroed-again (RR * m.rr) rr er (RR * m.rr) (omega arith) N.rr-behind fr;
-            sr-are = zeroed-again (SR * m.sr) sr es (SR * m.sr) (omega arith) N.sr-behind fs;
-          }
+      module _ (actions'' offered'' rr'' sr'' : List ℕ) (fa : actions'' ≡ zeroed (most * tokens b) actions') (fo : offered'' ≡ zeroed (most * tokens b) offered')
+          (fr : rr'' ≡ zeroed (RR * m.rr) rr') (fs : sr'' ≡ zeroed (SR * m.sr) sr') where
+        pub tables-stop : (a : Answer Rows) (r : Result Tally BuildRefusal) → NamedBy a b m n r actions₁ offered₁ rr₁ sr₁ actions' offered' rr' sr'
+            → is_err r ≡ true → TablesFilled a b m most n r actions offered rr sr actions'' offered'' rr'' sr''
+        tables-stop (is d) (Ok k) N z = absurd (true≢false (sym z))
+        tables-stop (is d) (Err e) N z = absurd N
+        tables-stop (refused why) r N z =
+            record {
+              tally = N.stopped;
+              rows = tt;
+              actions-are = zeroed-again (most * tokens b) actions ea (n * tokens b) fewer N.actions-behind fa;
+              offered-are = zeroed-again (most * tokens b) offered eo (n * tokens b) fewer N.offered-behind fo;
+              rr-are = zeroed-again (RR * m.rr) rr er (RR * m.rr) (omega arith) N.rr-behind fr;
+              sr-are = zeroed-again (SR * m.sr) sr es (SR * m.sr) (omega arith) N.sr-behind fs;
+            }

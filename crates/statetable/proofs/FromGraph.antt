@@ -1,12 +1,13 @@
 -- What `make` leaves, from what the call `graph` and the filling leave: each buffer by itself, and the answer. Assumes nothing.
 use mathlib.Core.Bool.{Bool, true, false, true≢false}
-use mathlib.Core.List.{List, [], ◌++◌, append_assoc, map}
+use mathlib.Core.List.{List, [], ◌∷◌, ◌++◌, append_assoc, map}
 use mathlib.Core.Path.{◌≡◌, refl, sym, ap, ◌∙◌, subst}
-use Prim.Native.Nat.{ℕ, zero, suc, ◌+◌, ◌-◌, ◌*◌, ◌≤◌, ◌<◌}
+use Prim.Native.Nat.{ℕ, ◌+◌, ◌-◌, ◌*◌, ◌≤◌, ◌<◌}
 use native.Mathlib.Nat.{mul-le-mul_right}
 use native.Mathlib.Omega.{arith}
 use lib.ListN.{length, get_or, drop, replicate, length-append, length-replicate}
 use lib.Seq.{drop_at}
+use Rattle.std.specs.Prelude.{Result, Ok, Err}
 use Rattle.block.specs.Block.{tokens, rules, prods}
 use Rattle.block.specs.First.{firsts_of}
 use Rattle.pager.specs.Lists.{each, Answer, is, refused, walk}
@@ -17,29 +18,31 @@ use Rattle.pager.specs.Memory.{pad, item_words, spans_from, edge_words}
 use Rattle.pager.specs.Given.{Given}
 use Rattle.pager.specs.Growing.{Growing}
 use Rattle.pager.specs.Rules3to7.{Rules3to7}
-use Rattle.pager.specs.Held.{STATES}
+use Rattle.pager.specs.Held.{STATES, number_of}
 use Rattle.pager.specs.Call as graph
 use Rattle.pager.specs.Call.{lent, item_part, span_part, edge_part, closed_part, zeroed, output, kept_rows_of, graph_call}
 use Rattle.pager.specs.declared.call.Kept.{Kept}
-use Rattle.pager.specs.declared.call.Graphed.{Graphed}
-use Rattle.pager.specs.declared.call.Graphed.TheVariants.{Built, Refused}
+use Rattle.pager.specs.declared.refusal.GraphRefusal.{GraphRefusal}
+use Rattle.pager.specs.declared.refusal.GraphRefusal.TheVariants as refusals
 use Rattle.pager.proofs.Padded.{length-pad, pad-long}
 use Rattle.pager.proofs.Memory.{items-length, spans-length, edges-length, growing-sets, growing-width}
 use Rattle.pager.proofs.CallLaws.{call-graph, lent_is}
 use Rattle.pager.proofs.CallRules.{usable}
 use Rattle.pager.proofs.Collected.{rules-3-to-7}
 use Rattle.statetable.specs.Limits.{RR, SR}
+use Rattle.statetable.specs.Refusals.{values_of, of_graph}
 use Rattle.statetable.specs.Cells.{Rows, no_rows, cells_of}
 use Rattle.statetable.specs.Marks.{shift_mark, core_marks, reduce_only}
-use Rattle.statetable.specs.Laid.{words_rr, words_sr, values_of}
+use Rattle.statetable.specs.Laid.{words_rr, words_sr}
 use Rattle.statetable.specs.ForFilling.{Fillable}
 use Rattle.statetable.specs.ForTables.{flat, goto_words, given, GraphIn, TallyBy}
 use Rattle.statetable.specs.Build.{Buffers, lent_all, limits_of, caps_of, with_rows, then_tables, build_of, counted, answer_of, written}
-use Rattle.statetable.specs.BuildSteps.{Roomy, ForTabulate, Tabulated, kept_within, finished, finished_by, Answered, kept_or}
+use Rattle.statetable.specs.BuildSteps.{Roomy, ForTabulate, Tabulated, kept_or}
 use Rattle.statetable.specs.declared.records.Caps.{Caps}
 use Rattle.statetable.specs.declared.records.Tally.{Tally}
 use Rattle.statetable.specs.declared.call.Named.{Named}
-use Rattle.statetable.specs.declared.call.StateTable.{StateTable}
+use Rattle.statetable.specs.declared.call.Counts.{Counts}
+use Rattle.statetable.specs.declared.refusal.BuildRefusal.{BuildRefusal}
 use Rattle.statetable.proofs.BuildLaws.{no-refusal, graph_long, graph-room, tables-room}
 
 -- ---- the states that the tables are of: those kept; none where the graph was refused
@@ -165,29 +168,44 @@ why-of (is k) = []
 why-of (refused why) = why
 
 -- the number of states that the tables are of
-pub states-number : (g : Graphed) (a : Answer (List State)) → graph.answer_of g ≡ graph.counted a → (kept_within g).states ≡ length (states_of a)
-states-number (Built k) (is ss) e = ap (λ (x : Answer Kept). (kept_of k x).states) e
-states-number (Built k) (refused why) e = absurd (true≢false (ap is-given e))
-states-number (Refused n) (is ss) e = absurd (true≢false (sym (ap is-given e)))
-states-number (Refused n) (refused why) e = refl
+abbrev pub states_in : Result Kept GraphRefusal → ℕ
+states_in (Ok k) = k.states
+states_in (Err e) = 0
 
-stopped : (k : Kept) (t : Tally) (j : ℕ) → 0 < j → finished k t j ≡ refused (values_of t)
-stopped k t zero h = absurd (omega arith)
-stopped k t (suc j) h = refl
+pub states-number : (g : Result Kept GraphRefusal) (a : Answer (List State)) → graph.answer_of g ≡ graph.counted a → states_in g ≡ length (states_of a)
+states-number (Ok k) (is ss) e = ap (λ (x : Answer Kept). (kept_of k x).states) e
+states-number (Ok k) (refused why) e = absurd (true≢false (ap is-given e))
+states-number (Err w) (is ss) e = absurd (true≢false (sym (ap is-given e)))
+states-number (Err w) (refused why) e = refl
 
-pub answered : (b : List ℕ) (m : Caps) (g : Graphed) (a : Answer (List State)) (t : Tally) → graph.answer_of g ≡ graph.counted a
-    → TallyBy (cells_of b (firsts_of b) m (states_of a)) t → finished_by g t ≡ counted (then_tables b m a)
-answered b m (Built k) (is ss) t e T = go (cells_of b (firsts_of b) m (collect_of ss)) T
+-- what the graph and the filling come to
+abbrev pub ended_by : Result Kept GraphRefusal → Result Tally BuildRefusal → Result Counts BuildRefusal
+ended_by (Ok k) (Ok t) = Ok (record { states = k.states; items = k.items; before = k.before; rr = t.rr; sr = t.sr; count = t.count })
+ended_by (Ok k) (Err e) = Err e
+ended_by (Err g) r = Err (of_graph g)
+
+graph-values : (e : GraphRefusal) → values_of (of_graph e) ≡ number_of e ∷ []
+graph-values (refusals.Block e) = refl
+graph-values refusals.RoomShort = refl
+graph-values refusals.StateRoom = refl
+graph-values refusals.ItemRoom = refl
+
+pub answered : (b : List ℕ) (m : Caps) (g : Result Kept GraphRefusal) (a : Answer (List State)) (r : Result Tally BuildRefusal) → graph.answer_of g ≡ graph.counted a
+    → TallyBy (cells_of b (firsts_of b) m (states_of a)) r → answer_of (ended_by g r) ≡ counted (then_tables b m a)
+answered b m (Ok k) (is ss) r e T = go (cells_of b (firsts_of b) m (collect_of ss)) r T
   where
     kept : k ≡ kept_rows_of ss
     kept = ap (kept_of k) e
 
-    go : (c : Answer Rows) → TallyBy c t → finished k t t.stop ≡ counted (with_rows (collect_of ss) (length ss) c)
-    go (is d) p = ap (λ (x : Kept). finished x t t.stop) kept ∙ ap (λ (u : Tally). finished (kept_rows_of ss) u u.stop) p
-    go (refused why) p = stopped k t t.stop p.some ∙ ap refused (sym p.is)
-answered b m (Built k) (refused why) t e T = absurd (true≢false (ap is-given e))
-answered b m (Refused n) (is ss) t e T = absurd (true≢false (sym (ap is-given e)))
-answered b m (Refused n) (refused why) t e T = ap (λ (x : Answer Kept). refused (why-of x)) e
+    go : (c : Answer Rows) (r : Result Tally BuildRefusal) → TallyBy c r → answer_of (ended_by (Ok k) r) ≡ counted (with_rows (collect_of ss) (length ss) c)
+    go (is d) (Ok t) p =
+        ap (λ (x : Kept). answer_of (ended_by (Ok x) (Ok t))) kept ∙ ap (λ (u : Tally). answer_of (ended_by (Ok (kept_rows_of ss)) (Ok u))) p
+    go (is d) (Err w) p = absurd p
+    go (refused why) (Ok t) p = absurd p
+    go (refused why) (Err w) p = ap {B = Answer Counts} refused (sym p)
+answered b m (Ok k) (refused why) r e T = absurd (true≢false (ap is-given e))
+answered b m (Err w) (is ss) r e T = absurd (true≢false (sym (ap is-given e)))
+answered b m (Err w) (refused why) r e T = ap {B = Answer Counts} refused (graph-values w) ∙ ap (λ (x : Answer Kept). refused (why-of x)) e
 
 -- ---- after the call `graph`
 module _ {b : List ℕ} {n : Named} {l : Buffers} (R : Roomy b n l) where
@@ -205,7 +223,7 @@ module _ {b : List ℕ} {n : Named} {l : Buffers} (R : Roomy b n l) where
   same_graph : (made ≡ graph_call b (limits_of n) l.graph) × (graph.written made b (limits_of n) l.graph ≡ graph.leaves b (limits_of n) l.graph)
   same_graph = call-graph b (limits_of n) l.graph (no-refusal R) (graph_long R)
 
-  module _ (g : Graphed) (i s e k c q : List ℕ) (A : graph.answer_of g ≡ graph.counted (graph_call b (limits_of n) l.graph))
+  module _ (g : Result Kept GraphRefusal) (i s e k c q : List ℕ) (A : graph.answer_of g ≡ graph.counted (graph_call b (limits_of n) l.graph))
       (B : lent i s e k c q ≡ graph.leaves b (limits_of n) l.graph) where
     answers : graph.answer_of g ≡ graph.counted made
     answers = A ∙ ap graph.counted (sym same_graph.0)
@@ -241,7 +259,7 @@ module _ {b : List ℕ} {n : Named} {l : Buffers} (R : Roomy b n l) where
         }
 
     -- what the filling asks
-    pub for-tabulate : (states : ℕ) → states ≡ (kept_within g).states
+    pub for-tabulate : (states : ℕ) → states ≡ states_in g
         → ForTabulate b n states i s e c l.actions l.gotos l.offered l.shifts l.cores l.only l.rr l.sr states-made
     unfolding item_words spans_from edge_words each
     for-tabulate states p =
@@ -272,12 +290,12 @@ module _ {b : List ℕ} {n : Named} {l : Buffers} (R : Roomy b n l) where
         }
 
     -- ---- after the filling
-    pub answer-made : (t : Tally) (r : StateTable) → TallyBy (cells_of b (firsts_of b) (caps_of n) states-made) t → Answered g t r
-        → answer_of r ≡ counted (build_of b n)
+    pub answer-made : (r : Result Tally BuildRefusal) → TallyBy (cells_of b (firsts_of b) (caps_of n) states-made) r
+        → answer_of (ended_by g r) ≡ counted (build_of b n)
     unfolding build_of
-    answer-made t r T W = W ∙ answered b (caps_of n) g made t answers T
+    answer-made r T = answered b (caps_of n) g made r answers T
 
-    pub buffers-made : (t : Tally) (i' s' e' c' actions' gotos' offered' shifts' cores' only' rr' sr' : List ℕ)
+    pub buffers-made : (t : Result Tally BuildRefusal) (i' s' e' c' actions' gotos' offered' shifts' cores' only' rr' sr' : List ℕ)
         → Tabulated (cells_of b (firsts_of b) (caps_of n) states-made) b n states-made t i s e l.actions l.gotos l.offered l.shifts l.cores l.only l.rr l.sr i' s' e' actions' gotos' offered' shifts' cores' only' rr' sr'
         → c' ≡ zeroed (closed_part b) c
         → lent_all (lent i' s' e' k c' q) actions' gotos' offered' shifts' cores' only' rr' sr' ≡ written (build_of b n) b n l

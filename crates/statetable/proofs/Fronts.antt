@@ -4,11 +4,9 @@ use mathlib.Core.Path.{◌≡◌, sym, ap, ◌∙◌, subst}
 use Prim.Native.Nat.{ℕ, ◌+◌, ◌-◌, ◌*◌, ◌≤◌}
 use native.Mathlib.Nat.{mul-le-mul_right}
 use native.Mathlib.Omega.{arith}
-use lib.ListN.{length, take, drop, replicate, length-append, length-replicate, replicate-append-replicate}
+use lib.ListN.{length, take, drop, replicate, length-replicate, replicate-append-replicate}
 use lib.Seq.{take_at, drop_at}
 use Rattle.block.specs.Block.{tokens, rules, prods}
-use Rattle.block.specs.Answer.{sizes_of}
-use Rattle.block.specs.declared.check.Sizes.{Sizes}
 use Rattle.pager.specs.Lists.{each}
 use Rattle.pager.specs.Place.{State}
 use Rattle.pager.specs.Memory.{pad}
@@ -37,9 +35,6 @@ module _ (n k : ℕ) (before cleared : List ℕ) (e : cleared ≡ zeroed n befor
   pub front_length : length (take k cleared) ≡ k
   front_length = ap length front-zero ∙ length-replicate {A = ℕ} k 0
 
-  pub front_fits : k ≤ length cleared
-  front_fits = omega (arith, ap length e, length-append (zeros n) (drop n before), length-replicate {A = ℕ} n 0)
-
   -- that many words there, and zero behind them
   pub front-pad : (ws : List ℕ) → length ws ≡ length (take k cleared) → (vs : List ℕ) → ws ≡ vs → ws ++ drop k cleared ≡ pad n vs ++ drop n before
   unfolding pad
@@ -52,19 +47,19 @@ module _ (n k : ℕ) (before cleared : List ℕ) (e : cleared ≡ zeroed n befor
 
 -- ---- the four rooms
 module _ {b edges actions gotos shifts cores only : List ℕ} {most n : ℕ} {ss : List State} {rs : List (List ℕ)}
-    (H : ForDerived b most n edges actions gotos shifts cores only ss rs) (z : Sizes) (e : z ≡ sizes_of b) where
+    (H : ForDerived b most n edges actions gotos shifts cores only ss rs) (t : ℕ) (t-is : t ≡ tokens b) (r : ℕ) (r-is : r ≡ rules b) (p : ℕ) (p-is : p ≡ prods b) where
   pub few-states : n ≤ STATES
   few-states = let f = H.fit in let g = H.fair in omega arith
 
   -- not more than was cleared
-  pub gotos-fit : n * z.rules ≤ most * rules b
-  gotos-fit = subst (λ (y : Sizes). n * y.rules ≤ most * rules b) (sym e) (mul-le-mul_right {m = n} {n = most} (rules b) H.fit)
+  pub gotos-fit : n * r ≤ most * rules b
+  gotos-fit = subst (λ (k : ℕ). n * k ≤ most * rules b) (sym r-is) (mul-le-mul_right {m = n} {n = most} (rules b) H.fit)
 
-  pub shifts_fit : n * z.tokens ≤ most * tokens b
-  shifts_fit = subst (λ (y : Sizes). n * y.tokens ≤ most * tokens b) (sym e) (mul-le-mul_right {m = n} {n = most} (tokens b) H.fit)
+  pub shifts_fit : n * t ≤ most * tokens b
+  shifts_fit = subst (λ (k : ℕ). n * k ≤ most * tokens b) (sym t-is) (mul-le-mul_right {m = n} {n = most} (tokens b) H.fit)
 
-  pub cores-fit : n * z.prods ≤ most * prods b
-  cores-fit = subst (λ (y : Sizes). n * y.prods ≤ most * prods b) (sym e) (mul-le-mul_right {m = n} {n = most} (prods b) H.fit)
+  pub cores-fit : n * p ≤ most * prods b
+  cores-fit = subst (λ (k : ℕ). n * k ≤ most * prods b) (sym p-is) (mul-le-mul_right {m = n} {n = most} (prods b) H.fit)
 
   -- the cells
   flat-length : length (flat rs) ≡ n * tokens b
@@ -72,17 +67,17 @@ module _ {b edges actions gotos shifts cores only : List ℕ} {most n : ℕ} {ss
       each-length (λ r. r) [] (tokens b) rs (λ k m. H.rows.width k (omega (arith, H.rows.number)))
       ∙ ap (λ (k : ℕ). k * tokens b) H.rows.number
 
-  cells_are : take (n * z.tokens) actions ≡ flat rs
+  cells_are : take (n * t) actions ≡ flat rs
   cells_are =
-      ap (λ (y : Sizes). take (n * y.tokens) actions) e
-      ∙ ap (λ (t : List ℕ). take (n * tokens b) t) H.actions-are
+      ap (λ (k : ℕ). take (n * k) actions) t-is
+      ∙ ap (λ (u : List ℕ). take (n * tokens b) u) H.actions-are
       ∙ take_at (flat rs) H.actions-behind (n * tokens b) flat-length
 
-  pub cells-length : length (take (n * z.tokens) actions) ≡ n * z.tokens
-  cells-length = ap length cells_are ∙ flat-length ∙ ap (λ (y : Sizes). n * y.tokens) (sym e)
+  pub cells-length : length (take (n * t) actions) ≡ n * t
+  cells-length = ap length cells_are ∙ flat-length ∙ ap (λ (k : ℕ). n * k) (sym t-is)
 
   module _ (gotos₁ : List ℕ) (g : gotos₁ ≡ zeroed (most * rules b) gotos) where
-    pub gotos-asked : ForGotos b n edges (take (n * z.rules) gotos₁) ss
+    pub gotos-asked : ForGotos b n edges (take (n * r) gotos₁) ss
     gotos-asked =
         record {
           good = H.good;
@@ -91,33 +86,33 @@ module _ {b edges actions gotos shifts cores only : List ℕ} {most n : ℕ} {ss
           widths = H.widths;
           edges-behind = H.edges-behind;
           edges_are = H.edges_are;
-          room = front_length (most * rules b) (n * z.rules) gotos gotos₁ g H.gotos-room gotos-fit ∙ ap (λ (y : Sizes). n * y.rules) e;
+          room = front_length (most * rules b) (n * r) gotos gotos₁ g H.gotos-room gotos-fit ∙ ap (λ (k : ℕ). n * k) r-is;
         }
 
   module _ (cores₁ : List ℕ) (c : cores₁ ≡ zeroed (most * prods b) cores) (only₁ : List ℕ) (o : only₁ ≡ zeroed most only) where
-    pub marks-asked : ForMarks b n (take (n * z.tokens) actions) (take (n * z.prods) cores₁) (take n only₁) rs
+    pub marks-asked : ForMarks b n (take (n * t) actions) (take (n * p) cores₁) (take n only₁) rs
     marks-asked =
         record {
           good = H.good;
           few = few-states;
           rows = H.rows;
           actions-are = cells_are;
-          cores-are = front-zero (most * prods b) (n * z.prods) cores cores₁ c H.cores-room cores-fit ∙ ap (λ (y : Sizes). replicate (n * y.prods) 0) e;
+          cores-are = front-zero (most * prods b) (n * p) cores cores₁ c H.cores-room cores-fit ∙ ap (λ (k : ℕ). replicate (n * k) 0) p-is;
           room = front_length most n only only₁ o H.only-room H.fit;
         }
 
   module _ (gotos₁ shifts₁ cores₁ only₁ : List ℕ) (g : gotos₁ ≡ zeroed (most * rules b) gotos) (s : shifts₁ ≡ zeroed (most * tokens b) shifts)
       (c : cores₁ ≡ zeroed (most * prods b) cores) (o : only₁ ≡ zeroed most only) (gotos₂ shifts₂ cores₂ only₂ : List ℕ)
-      (g-size : length gotos₂ ≡ length (take (n * z.rules) gotos₁)) (s-size : length shifts₂ ≡ length (take (n * z.tokens) shifts₁))
-      (c-size : length cores₂ ≡ length (take (n * z.prods) cores₁)) (o-size : length only₂ ≡ length (take n only₁)) where
-    pub derived : gotos₂ ≡ goto_words b ss → shifts₂ ≡ map shift_mark (take (n * z.tokens) actions) → cores₂ ≡ each (core_marks (prods b)) rs → only₂ ≡ map (reduce_only (prods b)) rs
-        → Derived b most ss rs gotos shifts cores only (gotos₂ ++ drop (n * z.rules) gotos₁) (shifts₂ ++ drop (n * z.tokens) shifts₁)
-        (cores₂ ++ drop (n * z.prods) cores₁) (only₂ ++ drop n only₁)
-    derived p q r t =
+      (g-size : length gotos₂ ≡ length (take (n * r) gotos₁)) (s-size : length shifts₂ ≡ length (take (n * t) shifts₁))
+      (c-size : length cores₂ ≡ length (take (n * p) cores₁)) (o-size : length only₂ ≡ length (take n only₁)) where
+    pub derived : gotos₂ ≡ goto_words b ss → shifts₂ ≡ map shift_mark (take (n * t) actions) → cores₂ ≡ each (core_marks (prods b)) rs → only₂ ≡ map (reduce_only (prods b)) rs
+        → Derived b most ss rs gotos shifts cores only (gotos₂ ++ drop (n * r) gotos₁) (shifts₂ ++ drop (n * t) shifts₁)
+        (cores₂ ++ drop (n * p) cores₁) (only₂ ++ drop n only₁)
+    derived gs ss' cs os =
         record {
-          gotos-are = front-pad (most * rules b) (n * z.rules) gotos gotos₁ g H.gotos-room gotos-fit gotos₂ g-size (goto_words b ss) p;
+          gotos-are = front-pad (most * rules b) (n * r) gotos gotos₁ g H.gotos-room gotos-fit gotos₂ g-size (goto_words b ss) gs;
           shifts-are =
-              front-pad (most * tokens b) (n * z.tokens) shifts shifts₁ s H.shifts-room shifts_fit shifts₂ s-size (map shift_mark (flat rs)) (q ∙ ap (map shift_mark) cells_are);
-          cores-are = front-pad (most * prods b) (n * z.prods) cores cores₁ c H.cores-room cores-fit cores₂ c-size (each (core_marks (prods b)) rs) r;
-          only-are = front-pad most n only only₁ o H.only-room H.fit only₂ o-size (map (reduce_only (prods b)) rs) t;
+              front-pad (most * tokens b) (n * t) shifts shifts₁ s H.shifts-room shifts_fit shifts₂ s-size (map shift_mark (flat rs)) (ss' ∙ ap (map shift_mark) cells_are);
+          cores-are = front-pad (most * prods b) (n * p) cores cores₁ c H.cores-room cores-fit cores₂ c-size (each (core_marks (prods b)) rs) cs;
+          only-are = front-pad most n only only₁ o H.only-room H.fit only₂ o-size (map (reduce_only (prods b)) rs) os;
         }

@@ -9,11 +9,10 @@ use native.Mathlib.Omega.{arith}
 use lib.Dec.{ltb, eqb}
 use lib.ListN.{length, get_or, set, length-set}
 use lib.Seq.{get_or-set_same, get_or-set_other}
+use Rattle.std.specs.Prelude.{Result, Ok, Err}
 use Rattle.knuth.specs.Tables.{Action}
-use Rattle.block.specs.Limits.{TOKENS, PRODS}
+use Rattle.block.specs.Limits.{TOKENS}
 use Rattle.block.specs.Block.{tokens, prods, end_token_of, start_prod, token_prec}
-use Rattle.block.specs.Refusal.{Known}
-use Rattle.block.specs.Stages.{KnownToken}
 use Rattle.block.proofs.Good.{placed}
 use Rattle.pager.specs.Lists.{is, refused}
 use Rattle.pager.specs.Held.{STATES}
@@ -21,9 +20,11 @@ use Rattle.statetable.specs.Cell.{decode, encode}
 use Rattle.statetable.specs.Events.{completes, leads}
 use Rattle.statetable.specs.Verdict.{Verdict, writes, two-reduces, unsettled, settled, stops, precedence_of, on_reduce, by_kind, resolve, on_shift}
 use Rattle.statetable.specs.Cells.{reduce-reduce, shift-reduce, Told, Fill, write, offer, tell, with_rr, with_sr, counted, settle, fill}
-use Rattle.statetable.specs.Laid.{Listed, ForVerdict, SettledBy, ActionIn, AllIn, Laid, LeftBy}
+use Rattle.statetable.specs.Refusals.{values_of}
+use Rattle.statetable.specs.Laid.{GoesOn, Listed, ForVerdict, SettledBy, ActionIn, AllIn, Laid, LeftBy}
 use Rattle.statetable.specs.declared.records.Caps.{Caps}
 use Rattle.statetable.specs.declared.records.Tally.{Tally}
+use Rattle.statetable.specs.declared.refusal.BuildRefusal.{BuildRefusal}
 use Rattle.statetable.proofs.Cells.{decode-encode}
 
 -- ---- what a verdict writes is an action of the grammar
@@ -99,10 +100,17 @@ reduce-more accepts p Action.accept = refl
 reduce-more true p (Action.reduce r) = refl
 reduce-more false p (Action.reduce r) = refl
 
--- ---- a row that lies in memory
-pub known-low : {b : List ℕ} {p : ℕ} → Known b p → p < PRODS
-known-low K = omega (arith, K.below, (placed K.good).prods-most)
+-- ---- what a verdict that is refused leaves
+pub refused-settled : (m : Caps) (s t : ℕ) (f : Fill) (e : BuildRefusal) (cells rr sr : List ℕ) → SettledBy (settle m s t (stops (values_of e)) f) m (Err e) cells rr sr
+unfolding settle
+refused-settled m s t f e cells rr sr = refl
 
+-- ---- what holds of a walk that goes on
+goes-on : {P Q : Tally → Type 0} (r : Result Tally BuildRefusal) → ((n : Tally) → P n → Q n) → GoesOn r P → GoesOn r Q
+goes-on (Ok n) f p = f n p
+goes-on (Err e) f p = p
+
+-- ---- a row that lies in memory
 module _ {b : List ℕ} {m : Caps} {s c : ℕ} {f : Fill} {n : Tally} {cells offered rr sr : List ℕ} (L : Laid b m s c f n cells offered rr sr) where
   pub laid-token : (t : ℕ) → t < tokens b → t < TOKENS
   laid-token t l = omega (arith, (placed L.good).tokens-most)
@@ -130,9 +138,6 @@ module _ {b : List ℕ} {m : Caps} {s c : ℕ} {f : Fill} {n : Tally} {cells off
   pub laid-action : (t : ℕ) → t < tokens b → ActionIn b (decode (get_or cells t 0))
   laid-action t l = subst (λ w. ActionIn b (decode (get_or w t 0))) (sym L.cells_are) (L.actions t (omega (arith, L.width)))
 
-  pub laid-known : (t : ℕ) → t < tokens b → KnownToken b t
-  laid-known t l = record { good = L.good; below = l }
-
   pub laid-verdict : (t : ℕ) → t < tokens b → c ≤ s * tokens b + t → ForVerdict m (offer t f) n t cells rr sr
   laid-verdict t l k =
       record {
@@ -151,7 +156,7 @@ module _ {b : List ℕ} {m : Caps} {s c : ℕ} {f : Fill} {n : Tally} {cells off
       }
 
   -- ---- a verdict on cell t leaves
-  module _ (t : ℕ) (l : t < tokens b) (c' : ℕ) (r : Tally) (cells' offered' rr' sr' : List ℕ) (o : offered' ≡ set offered t 1) where
+  module _ (t : ℕ) (l : t < tokens b) (c' : ℕ) (r : Result Tally BuildRefusal) (cells' offered' rr' sr' : List ℕ) (o : offered' ≡ set offered t 1) where
     all_in : (w : ℕ) → ActionIn b (decode w) → AllIn b (set f.cells t w)
     all_in w h i k =
         elim (ℕ_discrete i t) [
@@ -163,9 +168,9 @@ module _ {b : List ℕ} {m : Caps} {s c : ℕ} {f : Fill} {n : Tally} {cells off
               (L.actions i (omega (arith, length-set f.cells t w)))
         ]
 
-    kept : (w : ℕ) (k : Told) → ActionIn b (decode w) → k.count ≤ c' → Listed m k r rr' sr' × (cells' ≡ set f.cells t w)
-        → Laid b m s c' (write t w (tell k (offer t f))) r cells' offered' rr' sr'
-    kept w k h q S =
+    row_kept : (w : ℕ) (k : Told) → ActionIn b (decode w) → k.count ≤ c' → (n' : Tally) → Listed m k n' rr' sr' × (cells' ≡ set f.cells t w)
+        → Laid b m s c' (write t w (tell k (offer t f))) n' cells' offered' rr' sr'
+    row_kept w k h q n' S =
         record {
           good = L.good;
           state = L.state;
@@ -177,6 +182,10 @@ module _ {b : List ℕ} {m : Caps} {s c : ℕ} {f : Fill} {n : Tally} {cells off
           listed = S.0;
           count = q;
         }
+
+    kept : (w : ℕ) (k : Told) → ActionIn b (decode w) → k.count ≤ c' → GoesOn r (λ n'. Listed m k n' rr' sr' × (cells' ≡ set f.cells t w))
+        → GoesOn r (λ n'. Laid b m s c' (write t w (tell k (offer t f))) n' cells' offered' rr' sr')
+    kept w k h q S = goes-on r (λ n' K. row_kept w k h q n' K) S
 
     -- a record that fits, or not
     recorded : (w : ℕ) (k : Told) → ActionIn b (decode w) → k.count ≤ c'

@@ -4,6 +4,7 @@ pub mod RecordLists
 pub mod Settling
 pub mod LaidRows
 pub mod Folds
+pub mod SameRoom
 pub mod Coming
 pub mod OneState
 pub mod Pairs
@@ -19,7 +20,6 @@ pub mod Widths
 pub mod ReadBack
 pub mod Clean
 pub mod Tabulated
-pub mod Answering
 pub mod TablesRoom
 pub mod Writing
 pub mod Fronts

@@ -1,11 +1,11 @@
 -- A whole state, on the buffers: its kernel is closed, its complete items come, then its token edges. Assumes nothing.
-use mathlib.Core.Bool.{Bool}
-use mathlib.Core.List.{List}
+use mathlib.Core.List.{List, ◌++◌}
 use mathlib.Core.Path.{◌≡◌, refl, sym, ap, ◌∙◌, subst}
 use Prim.Native.Nat.{ℕ, ◌+◌, ◌-◌, ◌*◌, ◌≤◌}
 use native.Mathlib.Omega.{arith}
 use lib.ListN.{length, take, drop, replicate, length-drop, length-replicate}
 use lib.Seq.{take_all, get_or-drop}
+use Rattle.std.specs.Prelude.{Ok, Err}
 use Rattle.block.specs.Limits.{ITEM, PRODS, SYMBOLS}
 use Rattle.block.specs.Block.{tokens, rules, prods, symbols}
 use Rattle.block.specs.First.{firsts_of}
@@ -28,23 +28,23 @@ use Rattle.statetable.specs.Laid.{ActionIn, AllIn, Laid, LeftBy}
 use Rattle.statetable.specs.ForFilling.{ForRow, ForEdges, ForState}
 use Rattle.statetable.specs.declared.records.Caps.{Caps}
 use Rattle.statetable.specs.declared.records.Tally.{Tally}
-use Rattle.statetable.proofs.Folds.{Going, going_more}
+use Rattle.statetable.specs.declared.refusal.BuildRefusal.{BuildRefusal}
+use Rattle.statetable.proofs.Folds.{Here, here-more, more-stuck}
 
 -- cells that are all 0 are errors
 empty-in : (b : List ℕ) (n : ℕ) → AllIn b (replicate n 0)
 unfolding decode
 empty-in b n t l = subst (λ w. ActionIn b (decode w)) (sym (zeros-zero n t)) tt
 
-module _ {b : List ℕ} {m : Caps} {s : ℕ} {nullable : List Bool} {first kernel edges closed : List ℕ} {n : Tally} {cells offered rr sr : List ℕ} {st : State} {k : Told}
-    (F : ForState b m s nullable first kernel edges closed n cells offered rr sr st k) where
+module _ {b : List ℕ} {m : Caps} {s : ℕ} {kernel edges closed : List ℕ} {n : Tally} {cells offered rr sr : List ℕ} {st : State} {k : Told}
+    (F : ForState b m s kernel edges closed n cells offered rr sr st k) where
   abbrev C : List Row
   C = close_of b (firsts_of b) st.rows
 
-  pub state-closure : ForClosure b nullable first kernel closed st.rows
+  pub state-closure : ForClosure b kernel closed st.rows
   state-closure =
       record {
         kernel = record { good = F.good; rows = F.fillable.rows; words = F.words };
-        firsts = F.firsts;
         room = F.room;
       }
 
@@ -101,9 +101,20 @@ module _ {b : List ℕ} {m : Caps} {s : ℕ} {nullable : List Bool} {first kerne
               edge = λ t. subst (λ (x : ℕ). x ≤ STATES) (sym (get_or-drop (rules b) st.edges t 0)) (F.fillable.edge (rules b + t));
             }
 
-  -- ---- the complete items have come
-  module _ (n' : Tally) (cells' offered' rr' sr' : List ℕ)
-      (L : LeftBy (walk (fill b m s) (fresh b k) (each (of_row b) C)) b m s (s * tokens b) n' cells' offered' rr' sr') where
-    pub items-done : Going b m s (s * tokens b) (fill_state b (firsts_of b) m s k st) (of_edges 0 (drop (rules b) st.edges)) n' cells' offered' rr' sr'
-    unfolding fill_state events_of
-    items-done = going_more (record { row = fresh b k; laid = state-laid; whole = refl }) (each (of_row b) C) (of_edges 0 (drop (rules b) st.edges)) refl L
+  -- ---- the complete items are still to come, then the token edges
+  pub state-start : Here b m s (s * tokens b) (fill_state b (firsts_of b) m s k st) (each (of_row b) C ++ of_edges 0 (drop (rules b) st.edges)) n cells offered rr sr
+  unfolding fill_state events_of
+  state-start = record { row = fresh b k; laid = state-laid; whole = refl }
+
+  -- the complete items have come
+  pub items-done : {n' : Tally} {cells' offered' rr' sr' : List ℕ}
+      → LeftBy (walk (fill b m s) (fresh b k) (each (of_row b) C)) b m s (s * tokens b) (Ok n') cells' offered' rr' sr'
+      → Here b m s (s * tokens b) (fill_state b (firsts_of b) m s k st) (of_edges 0 (drop (rules b) st.edges)) n' cells' offered' rr' sr'
+  unfolding state-start
+  items-done L = here-more state-start (each (of_row b) C) (of_edges 0 (drop (rules b) st.edges)) refl L
+
+  pub items-stuck : (e : BuildRefusal) (cells' offered' rr' sr' : List ℕ)
+      → LeftBy (walk (fill b m s) (fresh b k) (each (of_row b) C)) b m s (s * tokens b) (Err e) cells' offered' rr' sr'
+      → (c' : ℕ) (cells'' offered'' rr'' sr'' : List ℕ) → LeftBy (fill_state b (firsts_of b) m s k st) b m s c' (Err e) cells'' offered'' rr'' sr''
+  unfolding state-start
+  items-stuck e cells' offered' rr' sr' L = more-stuck state-start (each (of_row b) C) (of_edges 0 (drop (rules b) st.edges)) refl (s * tokens b) e cells' offered' rr' sr' L

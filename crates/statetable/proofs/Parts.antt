@@ -8,8 +8,7 @@ use lib.ListN.{length, get_or, take, drop, replicate, length-replicate, length-a
 use lib.Seq.{take_at, drop_at}
 use Rattle.block.specs.Limits.{PRODS}
 use Rattle.block.specs.Refusal.{Good}
-use Rattle.block.specs.Answer.{sizes_of}
-use Rattle.block.specs.declared.check.Sizes.{Sizes}
+use Rattle.block.specs.Block.{tokens, rules, prods}
 use Rattle.block.proofs.Good.{placed}
 use Rattle.pager.specs.Lists.{each}
 use Rattle.pager.specs.Held.{STATES}
@@ -17,13 +16,13 @@ use Rattle.pager.proofs.CallLaws.{edge-part}
 use Rattle.pager.proofs.Each.{each_at, each-length, each-before}
 
 -- the parts that n states need are not too large
-module _ {b : List ℕ} (g : Good b) (z : Sizes) (e : z ≡ sizes_of b) (n : ℕ) (h : n ≤ STATES) where
-  pub part-most : (n * z.tokens ≤ STATES * PRODS) × (n * z.rules ≤ STATES * PRODS) × (n * z.prods ≤ STATES * PRODS)
+module _ {b : List ℕ} (g : Good b) (n : ℕ) (h : n ≤ STATES) where
+  pub part-most : (n * tokens b ≤ STATES * PRODS) × (n * rules b ≤ STATES * PRODS) × (n * prods b ≤ STATES * PRODS)
   part-most =
       let p = placed g in
-      let t = edge-part n z.tokens h (omega (arith, ap (λ (y : Sizes). y.tokens) e, p.tokens-most)) in
-      let r = edge-part n z.rules h (omega (arith, ap (λ (y : Sizes). y.rules) e, p.rules-most)) in
-      let q = edge-part n z.prods h (omega (arith, ap (λ (y : Sizes). y.prods) e, p.prods-most)) in
+      let t = edge-part n (tokens b) h (omega (arith, p.tokens-most)) in
+      let r = edge-part n (rules b) h (omega (arith, p.rules-most)) in
+      let q = edge-part n (prods b) h (omega (arith, p.prods-most)) in
       (omega arith, omega arith, omega arith)
 
 -- ---- a row that is read

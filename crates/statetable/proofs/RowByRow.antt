@@ -1,5 +1,4 @@
 -- The states filled in order: the rows of the first states are done, and the room of the others is still zero. Assumes nothing.
-use mathlib.Core.Bool.{Bool}
 use mathlib.Core.List.{List, [], ◌∷◌, ◌++◌, append-nil}
 use mathlib.Core.Path.{◌≡◌, refl, sym, ap, ap₂, ◌∙◌, subst}
 use Prim.Native.Nat.{ℕ, suc, ◌+◌, ◌-◌, ◌*◌, ◌^◌, ◌<◌, ◌≤◌}
@@ -8,10 +7,9 @@ use native.Mathlib.Omega.{arith}
 use native.Mathlib.Decide.{dec_lt}
 use lib.ListN.{length, get_or, take, drop, replicate, length-append, length-replicate, get_or-append}
 use lib.Seq.{take_all, get_or-append_seam}
+use Rattle.std.specs.Prelude.{Ok, Err}
 use Rattle.block.specs.Limits.{ITEM, TOKENS, RULES}
 use Rattle.block.specs.Block.{tokens, rules}
-use Rattle.block.specs.Answer.{sizes_of}
-use Rattle.block.specs.declared.check.Sizes.{Sizes}
 use Rattle.block.specs.First.{firsts_of}
 use Rattle.pager.specs.Lists.{each, Answer, is, refused, walk}
 use Rattle.pager.specs.Place.{State}
@@ -20,15 +18,16 @@ use Rattle.pager.specs.Memory.{pad}
 use Rattle.pager.specs.Held.{STATES}
 use Rattle.block.proofs.Good.{placed}
 use Rattle.pager.proofs.Each.{each_more, each-length}
-use Rattle.pager.proofs.CallLaws.{width_fits, edge-part}
+use Rattle.pager.proofs.CallLaws.{edge-part}
 use Rattle.pager.proofs.Walking.{walk-next, walk-stuck}
 use Rattle.statetable.specs.Limits.{RR, SR}
-use Rattle.statetable.specs.Cells.{Fill, fill_state, Rows, added, fill_next, no_rows, cells_of}
-use Rattle.statetable.specs.Laid.{tally_of, StoppedBy, Listed, AllIn, LeftBy}
+use Rattle.statetable.specs.Cells.{Fill, fill_state, Rows, row_added, added, fill_next, no_rows, cells_of}
+use Rattle.statetable.specs.Laid.{tally_of, Listed, AllIn, Laid, LeftBy}
 use Rattle.statetable.specs.ForFilling.{ForState}
 use Rattle.statetable.specs.ForTables.{flat, TableRows, ForStates, FilledBy}
 use Rattle.statetable.specs.declared.records.Caps.{Caps}
 use Rattle.statetable.specs.declared.records.Tally.{Tally}
+use Rattle.statetable.specs.declared.refusal.BuildRefusal.{BuildRefusal}
 use Rattle.statetable.proofs.Rooms.{kernel-room, kernel-words, edges_room, edges-row, row-empty, row_put}
 
 -- ---- the first s of so many states are done
@@ -39,10 +38,6 @@ pub record RowsDone (b : List ℕ) (m : Caps) (states s : ℕ) (d : Rows) (n : T
   pub count : d.told.count ≤ s * tokens b
   pub actions-are : actions ≡ flat d.cells ++ replicate ((states - s) * tokens b) 0
   pub offered-are : offered ≡ flat d.offered ++ replicate ((states - s) * tokens b) 0
-
-abbrev pub DoneBy : Answer Rows → List ℕ → Caps → ℕ → ℕ → Tally → List ℕ → List ℕ → List ℕ → List ℕ → Type 0
-DoneBy (is d) b m states s n actions offered rr sr = RowsDone b m states s d n actions offered rr sr
-DoneBy (refused why) b m states s n actions offered rr sr = StoppedBy why n
 
 -- ---- rows
 pub rows-length : {b : List ℕ} {s : ℕ} {rs : List (List ℕ)} → TableRows b s rs → length (flat rs) ≡ s * tokens b
@@ -94,69 +89,50 @@ less-left n s l = omega arith
 -- ---- the fold over the first s states, and the room then
 pub record Upto (b : List ℕ) (m : Caps) (states : ℕ) (ss : List State) (s : ℕ) (n : Tally) (actions offered rr sr : List ℕ) : Type 0 where
   pub within : s ≤ states
-  pub by : DoneBy (walk (fill_next b (firsts_of b) m) no_rows (take s ss)) b m states s n actions offered rr sr
-
--- it has not stopped
-pub record Turn (b : List ℕ) (m : Caps) (states : ℕ) (ss : List State) (s : ℕ) (n : Tally) (actions offered rr sr : List ℕ) : Type 0 where
   pub rows : Rows
   pub are : walk (fill_next b (firsts_of b) m) no_rows (take s ss) ≡ is rows
   pub done : RowsDone b m states s rows n actions offered rr sr
 
-module _ {b : List ℕ} {m : Caps} {states : ℕ} {ss : List State} {s : ℕ} {n : Tally} {actions offered rr sr : List ℕ} (U : Upto b m states ss s n actions offered rr sr) where
-  pub turn : n.stop ≡ 0 → Turn b m states ss s n actions offered rr sr
-  turn z = go (walk (fill_next b (firsts_of b) m) no_rows (take s ss)) refl U.by
-    where
-      go : (x : Answer Rows) → walk (fill_next b (firsts_of b) m) no_rows (take s ss) ≡ x → DoneBy x b m states s n actions offered rr sr
-          → Turn b m states ss s n actions offered rr sr
-      go (is d) e D = record { rows = d; are = e; done = D }
-      go (refused why) e D = absurd (let h = D.some in omega arith)
+-- ---- at the end all states are done
+pub filled-all : {b : List ℕ} {m : Caps} {states : ℕ} {ss : List State} {s : ℕ} {n : Tally} {actions offered rr sr : List ℕ}
+    → Upto b m states ss s n actions offered rr sr → states ≡ length ss → states ≤ s
+    → FilledBy (cells_of b (firsts_of b) m ss) b m states (Ok n) actions offered rr sr
+unfolding cells_of
+filled-all {b} {m} {states} {ss} {s} {n} {actions} {offered} {rr} {sr} U q l =
+    subst (λ (x : Answer Rows). FilledBy x b m states (Ok n) actions offered rr sr) (sym all-are)
+    (record {
+      rows = subst (λ (k : ℕ). TableRows b k U.rows.cells) all D.rows;
+      listed = D.listed;
+      actions-are = D.actions-are ∙ whole (flat U.rows.cells);
+      offered-are = D.offered-are ∙ whole (flat U.rows.offered);
+    })
+  where
+    D : RowsDone b m states s U.rows n actions offered rr sr
+    D = U.done
 
-  -- ---- at the end: all states are done, or it had to stop
-  pub filled-all : states ≡ length ss → states ≤ s → FilledBy (cells_of b (firsts_of b) m ss) b m states n actions offered rr sr
-  unfolding cells_of
-  filled-all q l =
-      subst (λ (t : List State). FilledBy (walk (fill_next b (firsts_of b) m) no_rows t) b m states n actions offered rr sr) (take_all s ss (omega arith))
-      (go (walk (fill_next b (firsts_of b) m) no_rows (take s ss)) U.by)
-    where
-      whole : (xs : List ℕ) → xs ++ replicate ((states - s) * tokens b) 0 ≡ xs
-      whole xs = let e : states - s ≡ 0 = omega arith in ap (λ (k : ℕ). xs ++ replicate (k * tokens b) 0) e ∙ nothing
-        where
-          nothing : xs ++ replicate (0 * tokens b) 0 ≡ xs
-          nothing = let e : 0 * tokens b ≡ 0 = omega arith in ap (λ (k : ℕ). xs ++ replicate k 0) e ∙ append-nil xs
+    all : s ≡ states
+    all = let w = U.within in omega arith
 
-      go : (x : Answer Rows) → DoneBy x b m states s n actions offered rr sr → FilledBy x b m states n actions offered rr sr
-      go (is d) D =
-          let e : s ≡ states = let w = U.within in omega arith in
-          record {
-            rows = subst (λ (k : ℕ). TableRows b k d.cells) e D.rows;
-            listed = D.listed;
-            actions-are = D.actions-are ∙ whole (flat d.cells);
-            offered-are = D.offered-are ∙ whole (flat d.offered);
-          }
-      go (refused why) D = D
+    all-are : walk (fill_next b (firsts_of b) m) no_rows ss ≡ is U.rows
+    all-are = ap (λ (t : List State). walk (fill_next b (firsts_of b) m) no_rows t) (sym (take_all s ss (omega arith))) ∙ U.are
 
-  pub filled-stop : (n.stop ≡ 0 → ⊥) → FilledBy (cells_of b (firsts_of b) m ss) b m states n actions offered rr sr
-  unfolding cells_of
-  filled-stop z = go (walk (fill_next b (firsts_of b) m) no_rows (take s ss)) refl U.by
-    where
-      go : (x : Answer Rows) → walk (fill_next b (firsts_of b) m) no_rows (take s ss) ≡ x → DoneBy x b m states s n actions offered rr sr
-          → FilledBy (walk (fill_next b (firsts_of b) m) no_rows ss) b m states n actions offered rr sr
-      go (is d) e D = absurd (z (ap (λ (k : Tally). k.stop) D.listed.counts))
-      go (refused why) e D =
-          subst (λ (x : Answer Rows). FilledBy x b m states n actions offered rr sr) (sym (walk-stuck (fill_next b (firsts_of b) m) ss s why no_rows e)) D
+    whole : (xs : List ℕ) → xs ++ replicate ((states - s) * tokens b) 0 ≡ xs
+    whole xs = let e : states - s ≡ 0 = omega arith in ap (λ (k : ℕ). xs ++ replicate (k * tokens b) 0) e ∙ nothing
+      where
+        nothing : xs ++ replicate (0 * tokens b) 0 ≡ xs
+        nothing = let e : 0 * tokens b ≡ 0 = omega arith in ap (λ (k : ℕ). xs ++ replicate k 0) e ∙ append-nil xs
 
-module _ {b : List ℕ} {m : Caps} {states : ℕ} {nullable : List Bool} {first items spans edges closed actions₀ offered₀ rr₀ sr₀ : List ℕ} {ss : List State}
-    (S : ForStates b m states nullable first items spans edges closed actions₀ offered₀ rr₀ sr₀ ss) where
-  pub width_low : (z : Sizes) → z ≡ sizes_of b → z.rules + z.tokens < 2 ^ 64
-  width_low z e = omega (arith, width_fits S.good z e)
-
+module _ {b : List ℕ} {m : Caps} {states : ℕ} {items spans edges closed actions₀ offered₀ rr₀ sr₀ : List ℕ} {ss : List State}
+    (S : ForStates b m states items spans edges closed actions₀ offered₀ rr₀ sr₀ ss) where
   -- ---- before the first state
   pub done_none : Upto b m states ss 0 (tally_of no_rows.told) actions₀ offered₀ rr₀ sr₀
   unfolding walk each pad
   done_none =
       record {
         within = omega arith;
-        by =
+        rows = no_rows;
+        are = refl;
+        done =
             record {
               rows = record { number = refl; width = λ i l. absurd (omega arith); actions = λ i l. absurd (omega arith) };
               marks = omega arith;
@@ -215,12 +191,35 @@ module _ {b : List ℕ} {m : Caps} {states : ℕ} {nullable : List Bool} {first 
       → (2 * s + 1 < length spans) × (ITEM * get_or spans (2 * s) 0 + ITEM * get_or spans (2 * s + 1) 0 ≤ length items)
   kernel-in s l = kernel-room S.graph s (let q = S.number in omega arith)
 
-  -- ---- state s: what it is lent, and what it leaves
-  module _ {s : ℕ} {n : Tally} {actions offered rr sr : List ℕ} (T : Turn b m states ss s n actions offered rr sr) (l : s < states)
-      (at w : ℕ) (at-is : at ≡ s * tokens b) (w-is : w ≡ tokens b) where
+  -- ---- state s is filled, or refused
+  module _ {s : ℕ} {n : Tally} {actions offered rr sr : List ℕ} (T : Upto b m states ss s n actions offered rr sr) (l : s < states) where
     there : s < length ss
     there = let q = S.number in omega arith
 
+    stepped : walk (fill_next b (firsts_of b) m) no_rows (take (suc s) ss) ≡ added T.rows (fill_state b (firsts_of b) m s T.rows.told (get_or ss s nowhere))
+    unfolding fill_next
+    stepped =
+        walk-next (fill_next b (firsts_of b) m) ss s nowhere there no_rows
+        ∙ ap (λ (x : Answer Rows). elim x [ is c ↦ fill_next b (firsts_of b) m c (get_or ss s nowhere) | refused e ↦ refused e ]) T.are
+        ∙ ap (λ (k : ℕ). added T.rows (fill_state b (firsts_of b) m k T.rows.told (get_or ss s nowhere))) T.done.rows.number
+
+    -- state s is refused
+    pub filled-stop : (e : BuildRefusal) (c : ℕ) (cells marks rr' sr' : List ℕ)
+        → LeftBy (fill_state b (firsts_of b) m s T.rows.told (get_or ss s nowhere)) b m s c (Err e) cells marks rr' sr'
+        → (actions' offered' rr'' sr'' : List ℕ) → FilledBy (cells_of b (firsts_of b) m ss) b m states (Err e) actions' offered' rr'' sr''
+    unfolding cells_of
+    filled-stop e c cells marks rr' sr' L actions' offered' rr'' sr'' = go (fill_state b (firsts_of b) m s T.rows.told (get_or ss s nowhere)) refl L
+      where
+        go : (x : Answer Fill) → fill_state b (firsts_of b) m s T.rows.told (get_or ss s nowhere) ≡ x
+            → LeftBy x b m s c (Err e) cells marks rr' sr' → FilledBy (walk (fill_next b (firsts_of b) m) no_rows ss) b m states (Err e) actions' offered' rr'' sr''
+        go (is g) q L = absurd L
+        go (refused why) q L =
+            subst (λ (x : Answer Rows). FilledBy x b m states (Err e) actions' offered' rr'' sr'')
+            (sym (walk-stuck (fill_next b (firsts_of b) m) ss (suc s) why no_rows (stepped ∙ ap (added T.rows) q))) L
+
+  -- ---- state s: what it is lent, and what it leaves
+  module _ {s : ℕ} {n : Tally} {actions offered rr sr : List ℕ} (T : Upto b m states ss s n actions offered rr sr) (l : s < states)
+      (at w : ℕ) (at-is : at ≡ s * tokens b) (w-is : w ≡ tokens b) where
     left : ℕ
     left = (states - suc s) * tokens b
 
@@ -239,17 +238,16 @@ module _ {b : List ℕ} {m : Caps} {states : ℕ} {nullable : List Bool} {first 
     pub for-one : (from wide : ℕ) → from ≡ s * (rules b + tokens b) → wide ≡ rules b + tokens b
         → (kernel : List ℕ) → kernel ≡ take (ITEM * get_or spans (2 * s + 1) 0) (drop (ITEM * get_or spans (2 * s) 0) items)
         → (closed' : List ℕ) → length closed' ≡ length closed
-        → ForState b m s nullable first kernel (take wide (drop from edges)) closed' n (take w (drop at actions)) (take w (drop at offered)) rr sr
+        → ForState b m s kernel (take wide (drop from edges)) closed' n (take w (drop at actions)) (take w (drop at offered)) rr sr
         (get_or ss s nowhere) T.rows.told
     for-one from wide from_is wide_is kernel kernel-is closed' same =
         let D = T.done in
         record {
           good = S.good;
           state = let f = S.graph.few in let q = S.number in omega arith;
-          firsts = S.firsts;
-          fillable = S.graph.fillable s there;
-          words = kernel-is ∙ kernel-words S.graph s there;
-          edges_are = ap₂ (λ (i j : ℕ). take i (drop j edges)) wide_is from_is ∙ edges-row S.graph s there;
+          fillable = S.graph.fillable s (there T l);
+          words = kernel-is ∙ kernel-words S.graph s (there T l);
+          edges_are = ap₂ (λ (i j : ℕ). take i (drop j edges)) wide_is from_is ∙ edges-row S.graph s (there T l);
           room = let r = S.room in omega arith;
           cells_are = empty (flat T.rows.cells) actions (rows-length D.rows) D.actions-are;
           offered-are = empty (flat T.rows.offered) offered D.marks D.offered-are;
@@ -257,52 +255,39 @@ module _ {b : List ℕ} {m : Caps} {states : ℕ} {nullable : List Bool} {first 
           count = D.count;
         }
 
-    pub done_next : (n' : Tally) (cells marks rr' sr' : List ℕ)
-        → LeftBy (fill_state b (firsts_of b) m s T.rows.told (get_or ss s nowhere)) b m s (s * tokens b + tokens b) n' cells marks rr' sr'
-        → (s' : ℕ) → s' ≡ suc s
-        → Upto b m states ss s' n' (take at actions ++ (cells ++ drop w (drop at actions))) (take at offered ++ (marks ++ drop w (drop at offered))) rr' sr'
-    unfolding fill_next
-    done_next n' cells marks rr' sr' L s' q =
-        subst (λ (k : ℕ). Upto b m states ss k n' actions' offered' rr' sr') (sym q)
-        (record {
-          within = l;
-          by = subst (λ (x : Answer Rows). DoneBy x b m states (suc s) n' actions' offered' rr' sr') (sym stepped)
-              (go (fill_state b (firsts_of b) m s d.told (get_or ss s nowhere)) L);
-        })
-      where
-        d : Rows
-        d = T.rows
+    module _ (n' : Tally) (cells marks rr' sr' : List ℕ) where
+      abbrev actions' : List ℕ
+      actions' = take at actions ++ (cells ++ drop w (drop at actions))
 
-        actions' : List ℕ
-        actions' = take at actions ++ (cells ++ drop w (drop at actions))
+      abbrev offered' : List ℕ
+      offered' = take at offered ++ (marks ++ drop w (drop at offered))
 
-        offered' : List ℕ
-        offered' = take at offered ++ (marks ++ drop w (drop at offered))
+      row_done : (g : Fill) → Laid b m s (s * tokens b + tokens b) g n' cells marks rr' sr' → RowsDone b m states (suc s) (row_added T.rows g) n' actions' offered' rr' sr'
+      row_done g L =
+          let D = T.done in
+          record {
+            rows = rows_more D.rows g.cells L.width L.actions;
+            marks =
+                let e = L.marks in
+                let f = D.marks in
+                ap length (each_more (λ r. r) T.rows.offered g.offered) ∙ omega (arith, length-append (flat T.rows.offered) g.offered, suc-mul s (tokens b));
+            listed = L.listed;
+            count = let c = L.count in omega (arith, suc-mul s (tokens b));
+            actions-are =
+                put (flat T.rows.cells) actions (rows-length D.rows) D.actions-are cells
+                ∙ ap (λ (t : List ℕ). t ++ replicate ((states - suc s) * tokens b) 0)
+                (ap (λ (t : List ℕ). flat T.rows.cells ++ t) L.cells_are ∙ sym (each_more (λ r. r) T.rows.cells g.cells));
+            offered-are =
+                put (flat T.rows.offered) offered D.marks D.offered-are marks
+                ∙ ap (λ (t : List ℕ). t ++ replicate ((states - suc s) * tokens b) 0)
+                (ap (λ (t : List ℕ). flat T.rows.offered ++ t) L.offered-are ∙ sym (each_more (λ r. r) T.rows.offered g.offered));
+          }
 
-        stepped : walk (fill_next b (firsts_of b) m) no_rows (take (suc s) ss) ≡ added d (fill_state b (firsts_of b) m s d.told (get_or ss s nowhere))
-        stepped =
-            walk-next (fill_next b (firsts_of b) m) ss s nowhere there no_rows
-            ∙ ap (λ (x : Answer Rows). elim x [ is c ↦ fill_next b (firsts_of b) m c (get_or ss s nowhere) | refused e ↦ refused e ]) T.are
-            ∙ ap (λ (k : ℕ). added d (fill_state b (firsts_of b) m k d.told (get_or ss s nowhere))) T.done.rows.number
-
-        go : (x : Answer Fill) → LeftBy x b m s (s * tokens b + tokens b) n' cells marks rr' sr' → DoneBy (added d x) b m states (suc s) n' actions' offered' rr' sr'
-        go (is g) L =
-            let D = T.done in
-            record {
-              rows = rows_more D.rows g.cells L.width L.actions;
-              marks =
-                  let e = L.marks in
-                  let f = D.marks in
-                  ap length (each_more (λ r. r) d.offered g.offered) ∙ omega (arith, length-append (flat d.offered) g.offered, suc-mul s (tokens b));
-              listed = L.listed;
-              count = let c = L.count in omega (arith, suc-mul s (tokens b));
-              actions-are =
-                  put (flat d.cells) actions (rows-length D.rows) D.actions-are cells
-                  ∙ ap (λ (t : List ℕ). t ++ replicate ((states - suc s) * tokens b) 0)
-                  (ap (λ (t : List ℕ). flat d.cells ++ t) L.cells_are ∙ sym (each_more (λ r. r) d.cells g.cells));
-              offered-are =
-                  put (flat d.offered) offered D.marks D.offered-are marks
-                  ∙ ap (λ (t : List ℕ). t ++ replicate ((states - suc s) * tokens b) 0)
-                  (ap (λ (t : List ℕ). flat d.offered ++ t) L.offered-are ∙ sym (each_more (λ r. r) d.offered g.offered));
-            }
-        go (refused why) L = L
+      pub done_next : LeftBy (fill_state b (firsts_of b) m s T.rows.told (get_or ss s nowhere)) b m s (s * tokens b + tokens b) (Ok n') cells marks rr' sr'
+          → (s' : ℕ) → s' ≡ suc s → Upto b m states ss s' n' actions' offered' rr' sr'
+      done_next L s' q = subst (λ (k : ℕ). Upto b m states ss k n' actions' offered' rr' sr') (sym q) (go (fill_state b (firsts_of b) m s T.rows.told (get_or ss s nowhere)) refl L)
+        where
+          go : (x : Answer Fill) → fill_state b (firsts_of b) m s T.rows.told (get_or ss s nowhere) ≡ x
+              → LeftBy x b m s (s * tokens b + tokens b) (Ok n') cells marks rr' sr' → Upto b m states ss (suc s) n' actions' offered' rr' sr'
+          go (is g) e L = record { within = l; rows = row_added T.rows g; are = stepped T l ∙ ap (added T.rows) e; done = row_done g L }
+          go (refused why) e L = absurd L

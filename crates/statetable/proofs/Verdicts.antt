@@ -5,7 +5,6 @@ use mathlib.Core.Logic.{◌⊎◌, inl, inr, ◌≢◌}
 use mathlib.Core.Path.{◌≡◌, refl, sym, ap, ap₂, ◌∙◌, subst}
 use Prim.Native.Nat.{ℕ, zero, suc, ◌+◌, ◌*◌, ◌/◌, ◌%◌, ◌≤◌, ◌<◌, min, max}
 use native.Mathlib.Nat.{min-eq_left, min-eq_right, max-eq_left, max-eq_right}
-use native.Mathlib.Numerals.{add-one}
 use native.Mathlib.Omega.{arith}
 use lib.Dec.{ltb, eqb}
 use borrow.Author.Tests.{lt-ltb, le-ltb, eq-eqb, ne_eqb}
@@ -57,8 +56,8 @@ module _ (w p : ℕ) (accepts : Bool) where
   after-accept e = ap (on_reduce accepts p) e
 
   module _ (r : ℕ) (e : Action.reduce r ≡ decode w) where
-    pub meets-accept : accepts ≡ true → stops (11 ∷ (r + 1) ∷ p ∷ []) ≡ on_reduce accepts p (decode w)
-    meets-accept t = ap (λ n. stops (11 ∷ n ∷ p ∷ [])) (add-one r) ∙ ap₂ (λ a x. on_reduce a p x) (sym t) e
+    pub meets-accept : accepts ≡ true → stops (11 ∷ suc r ∷ p ∷ []) ≡ on_reduce accepts p (decode w)
+    meets-accept t = ap₂ (λ a x. on_reduce a p x) (sym t) e
 
     two : accepts ≡ false → two-reduces (encode (Action.reduce (min r p))) (min r p) (max r p) ≡ on_reduce accepts p (decode w)
     two t = ap₂ (λ a x. on_reduce a p x) (sym t) e

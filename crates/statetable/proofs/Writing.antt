@@ -1,49 +1,14 @@
--- A loop that writes a room anew, a word or a row a turn. Assumes nothing.
+-- A loop that writes a room anew, a row a turn. Assumes nothing.
 use mathlib.Core.List.{List, ◌++◌, append_assoc, append-nil}
-use mathlib.Core.Path.{◌≡◌, refl, sym, ap, ap₂, ◌∙◌}
+use mathlib.Core.Path.{◌≡◌, sym, ap, ap₂, ◌∙◌}
 use Prim.Native.Nat.{ℕ, suc, ◌+◌, ◌*◌, ◌≤◌, ◌<◌}
 use native.Mathlib.Nat.{suc-mul, mul-le-mul_right}
 use native.Mathlib.Numerals.{add-one}
 use native.Mathlib.Omega.{arith}
-use lib.ListN.{length, get_or, take, drop, set, length-append, length-drop, drop_of_length-le}
-use lib.Seq.{take-suc, take_all, length-take-le, get_or-take, drop-cons, take_at, drop_at, drop-drop, set_at, append_snoc}
+use lib.ListN.{length, get_or, take, drop, drop_of_length-le}
+use lib.Seq.{take-suc, take_all, take_at, drop_at, drop-drop}
 use Rattle.pager.specs.Lists.{each}
-use Rattle.pager.proofs.Each.{each_more, each-length, each-before}
-
--- ---- words: i of ys by now, over what stood there
-pub record Written (before ys : List ℕ) (i : ℕ) (xs : List ℕ) : Type 0 where
-  pub within : i ≤ length ys
-  pub room : length before ≡ length ys
-  pub is : xs ≡ take i ys ++ drop i before
-
-pub written_start : (xs ys : List ℕ) → length xs ≡ length ys → Written xs ys 0 xs
-written_start xs ys h = record { within = omega arith; room = h; is = refl }
-
-module _ {before ys xs : List ℕ} {i : ℕ} (W : Written before ys i xs) where
-  pub written-size : length xs ≡ length before
-  written-size =
-      let w = W.within in
-      let r = W.room in
-      ap length W.is ∙ omega (arith, length-append (take i ys) (drop i before), length-take-le i ys w, length-drop i before)
-
-  pub written_next : i < length ys → (v : ℕ) → v ≡ get_or ys i 0 → Written before ys (i + 1) (set xs i v)
-  written_next l v e =
-      let r = W.room in
-      record {
-        within = omega arith;
-        room = W.room;
-        is =
-            ap₂ (λ (t : List ℕ) (u : ℕ). set t i u) (W.is ∙ ap (λ (t : List ℕ). take i ys ++ t) (drop-cons before i 0 (omega arith))) e
-            ∙ set_at (take i ys) (get_or before i 0) (drop (suc i) before) (get_or ys i 0) i (length-take-le i ys (omega arith))
-            ∙ sym (append_snoc (take i ys) (get_or ys i 0) (drop (suc i) before))
-            ∙ ap (λ (t : List ℕ). t ++ drop (suc i) before) (sym (take-suc ys i 0 l))
-            ∙ ap (λ (n : ℕ). take n ys ++ drop n before) (sym (add-one i));
-      }
-
-  pub written-done : length ys ≤ i → xs ≡ ys
-  written-done h =
-      let r = W.room in
-      W.is ∙ ap₂ (λ (s t : List ℕ). s ++ t) (take_all i ys h) (drop_of_length-le before {i = i} (omega arith)) ∙ append-nil ys
+use Rattle.pager.proofs.Each.{each_more, each-before}
 
 -- ---- rows of w words: those of the first s of rs by now, over what stood there
 pub record RowsTo {A : Type 0} (f : A → List ℕ) (w : ℕ) (before : List ℕ) (rs : List A) (s : ℕ) (xs : List ℕ) : Type 0 where
@@ -55,14 +20,6 @@ module _ {A : Type 0} (f : A → List ℕ) (w : ℕ) (d : A) (before : List ℕ)
   rows_start = record { is = ap (λ (n : ℕ). drop n before) (let e : 0 ≡ 0 * w = omega arith in e) }
 
   module _ (h : (n : ℕ) → n < length rs → length (f (get_or rs n d)) ≡ w) (size : length before ≡ length rs * w) (s : ℕ) (xs : List ℕ) (R : RowsTo f w before rs s xs) where
-    pub rows-size : s ≤ length rs → length xs ≡ length before
-    rows-size l =
-        let e : length (take s rs) ≡ s = length-take-le s rs l in
-        let g : length (each f (take s rs)) ≡ s * w =
-        each-length f d w (take s rs) (λ k m. ap (λ (x : A). length (f x)) (get_or-take s rs k d (omega arith)) ∙ h k (omega arith)) ∙ ap (λ (k : ℕ). k * w) e in
-        ap length R.is
-        ∙ omega (arith, length-append (each f (take s rs)) (drop (s * w) before), length-drop (s * w) before, mul-le-mul_right {m = s} {n = length rs} w l)
-
     module _ (l : s < length rs) where
       front : length (each f (take s rs)) ≡ s * w
       front = each-before f d w rs h s l

@@ -1,5 +1,5 @@
 -- The call `build`: when it refuses, what it answers, and what each lent buffer holds then. Assumes nothing.
-use Rattle.std.specs.Prelude.{Bool, ◌||◌, cond, List, [], ◌∷◌, map, ℕ, suc, ◌*◌, length}
+use Rattle.std.specs.Prelude.{Bool, ◌||◌, cond, List, [], ◌∷◌, map, ℕ, ◌*◌, length, Result, Ok, Err}
 use Rattle.block.specs.Block.{tokens, rules, prods}
 use Rattle.block.specs.Refusal.{refusal_of}
 use Rattle.block.specs.First.{firsts_of}
@@ -11,6 +11,7 @@ use Rattle.pager.specs.Memory.{item_words, spans_from, edge_words}
 use Rattle.pager.specs.Call as graph
 use Rattle.pager.specs.Call.{item_part, span_part, edge_part, mark_part, closed_part, kernel_part, some_less, or_else, zeroed}
 use Rattle.statetable.specs.Limits.{RECORDS, RR, SR}
+use Rattle.statetable.specs.Refusals.{values_of}
 use Rattle.statetable.specs.Cells.{Rows, cells_of}
 use Rattle.statetable.specs.Marks.{shift_mark, core_marks, reduce_only}
 use Rattle.statetable.specs.Laid.{words_rr, words_sr}
@@ -18,8 +19,7 @@ use Rattle.statetable.specs.ForTables.{flat, goto_words, given}
 use Rattle.statetable.specs.declared.records.Caps.{Caps}
 use Rattle.statetable.specs.declared.call.Named.{Named}
 use Rattle.statetable.specs.declared.call.Counts.{Counts}
-use Rattle.statetable.specs.declared.call.StateTable.{StateTable}
-use Rattle.statetable.specs.declared.call.StateTable.TheVariants.{Made, Refused, AcceptSome, AcceptNone, MixedKinds}
+use Rattle.statetable.specs.declared.refusal.BuildRefusal.{BuildRefusal}
 
 -- ---- the lent buffers: those of the call `graph`, then the tables, marks and lists, all outputs
 pub record Buffers : Type 0 where
@@ -106,13 +106,10 @@ abbrev pub counted : Answer Built → Answer Counts
 counted (is x) = is (counts_of x)
 counted (refused why) = refused why
 
--- the values of an answer, or document 01's number of it with its values; Some(r) is r + 1, None is 0
-abbrev pub answer_of : StateTable → Answer Counts
-answer_of (Made k) = is k
-answer_of (Refused n) = refused (n ∷ [])
-answer_of (AcceptSome r p) = refused (11 ∷ suc r ∷ p ∷ [])
-answer_of (AcceptNone p) = refused (11 ∷ 0 ∷ p ∷ [])
-answer_of (MixedKinds t p s) = refused (12 ∷ t ∷ p ∷ s ∷ [])
+-- the numbers that are answered, or a refusal's number with its values
+abbrev pub answer_of : Result Counts BuildRefusal → Answer Counts
+answer_of (Ok k) = is k
+answer_of (Err e) = refused (values_of e)
 
 -- ---- what the buffers hold at the end
 abbrev pub written_graph : Answer Built → List ℕ → Limits → graph.Buffers → graph.Buffers

@@ -1,5 +1,5 @@
 -- What the steps of the call `build` ask and leave. Assumes nothing.
-use Rattle.std.specs.Prelude.{List, [], ◌∷◌, map, ◌≡◌, ℕ, zero, suc, ◌*◌, ◌≤◌, length}
+use Rattle.std.specs.Prelude.{List, map, ◌≡◌, ℕ, ◌*◌, ◌≤◌, length, Result}
 use Rattle.block.specs.Block.{tokens, rules, prods}
 use Rattle.block.specs.Refusal.{Good}
 use Rattle.pager.specs.Lists.{each, Answer, is, refused}
@@ -9,16 +9,12 @@ use Rattle.pager.specs.Held.{STATES, ITEMS}
 use Rattle.statetable.specs.Limits.{RECORDS, RR, SR}
 use Rattle.statetable.specs.Cells.{Rows}
 use Rattle.statetable.specs.Marks.{shift_mark, core_marks, reduce_only}
-use Rattle.statetable.specs.Laid.{words_rr, words_sr, values_of}
+use Rattle.statetable.specs.Laid.{words_rr, words_sr}
 use Rattle.statetable.specs.ForTables.{flat, goto_words, given, GraphIn, TallyBy}
-use Rattle.statetable.specs.Build.{Buffers, limits_of, turned_away, answer_of}
+use Rattle.statetable.specs.Build.{Buffers, limits_of, turned_away}
 use Rattle.statetable.specs.declared.records.Tally.{Tally}
 use Rattle.statetable.specs.declared.call.Named.{Named}
-use Rattle.statetable.specs.declared.call.Counts.{Counts}
-use Rattle.statetable.specs.declared.call.StateTable.{StateTable}
-use Rattle.pager.specs.declared.call.Kept.{Kept}
-use Rattle.pager.specs.declared.call.Graphed.{Graphed}
-use Rattle.pager.specs.declared.call.Graphed.TheVariants.{Built, Refused}
+use Rattle.statetable.specs.declared.refusal.BuildRefusal.{BuildRefusal}
 
 -- a good block, and no 7
 pub record Roomy (b : List ℕ) (n : Named) (l : Buffers) : Type 0 where
@@ -48,35 +44,13 @@ pub record ForTabulate (b : List ℕ) (n : Named) (states : ℕ) (items spans ed
   pub rr-room : RR * n.rr ≤ length rr
   pub sr-room : SR * n.sr ≤ length sr
 
--- zero if there was a stop
-abbrev pub zeroed_if : ℕ → ℕ → List ℕ → List ℕ
-zeroed_if zero n before = before
-zeroed_if (suc stop) n before = zeroed n before
-
--- what the call `graph` kept
-abbrev pub kept_within : Graphed → Kept
-kept_within (Built k) = k
-kept_within (Refused n) = record { states = 0; items = 0; before = 0 }
-
--- what is answered, where t says that the filling went on to its end, or why it had to stop
-abbrev pub finished : Kept → Tally → ℕ → Answer Counts
-finished k t zero = is (record { states = k.states; items = k.items; before = k.before; rr = t.rr; sr = t.sr; count = t.count })
-finished k t (suc stop) = refused (values_of t)
-
-abbrev pub finished_by : Graphed → Tally → Answer Counts
-finished_by (Built k) t = finished k t t.stop
-finished_by (Refused n) t = refused (n ∷ [])
-
-abbrev pub Answered : Graphed → Tally → StateTable → Type 0
-Answered g t r = answer_of r ≡ finished_by g t
-
 -- the graph stays, unless the filling had to stop
 abbrev pub kept_or : {A : Type 0} → Answer A → ℕ → List ℕ → List ℕ
 kept_or (is d) n before = before
 kept_or (refused why) n before = zeroed n before
 
-pub record Tabulated (a : Answer Rows) (b : List ℕ) (n : Named) (ss : List State) (t : Tally) (items spans edges actions gotos offered shifts cores only rr sr items' spans' edges' actions' gotos' offered' shifts' cores' only' rr' sr' : List ℕ) : Type 0 where
-  pub tally : TallyBy a t
+pub record Tabulated (a : Answer Rows) (b : List ℕ) (n : Named) (ss : List State) (r : Result Tally BuildRefusal) (items spans edges actions gotos offered shifts cores only rr sr items' spans' edges' actions' gotos' offered' shifts' cores' only' rr' sr' : List ℕ) : Type 0 where
+  pub tally : TallyBy a r
   pub items-are : items' ≡ kept_or a (item_part (limits_of n)) items
   pub spans-are : spans' ≡ kept_or a (span_part (limits_of n)) spans
   pub edges_are : edges' ≡ kept_or a (edge_part b (limits_of n)) edges

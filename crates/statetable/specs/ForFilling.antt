@@ -1,9 +1,8 @@
 -- What the calls that fill cells are lent. Assumes nothing.
-use Rattle.std.specs.Prelude.{Bool, List, ◌≡◌, ℕ, ◌+◌, ◌*◌, ◌≤◌, ◌<◌, length, get_or, replicate}
+use Rattle.std.specs.Prelude.{List, ◌≡◌, ℕ, ◌+◌, ◌*◌, ◌≤◌, ◌<◌, length, get_or, replicate}
 use Rattle.block.specs.Limits.{ITEM}
 use Rattle.block.specs.Block.{tokens, rules, prods, symbols}
 use Rattle.block.specs.Refusal.{Good}
-use Rattle.block.specs.First.{firsts_of, Stored}
 use Rattle.itemset.specs.Rows.{Row, Rows, words_of}
 use Rattle.pager.specs.Place.{State}
 use Rattle.pager.specs.Held.{STATES}
@@ -29,10 +28,9 @@ pub record Fillable (b : List ℕ) (st : State) : Type 0 where
   pub edge : (i : ℕ) → get_or st.edges i 0 ≤ STATES
 
 -- state s, whose row is still empty
-pub record ForState (b : List ℕ) (m : Caps) (s : ℕ) (nullable : List Bool) (first kernel edges closed : List ℕ) (n : Tally) (cells offered rr sr : List ℕ) (st : State) (k : Told) : Type 0 where
+pub record ForState (b : List ℕ) (m : Caps) (s : ℕ) (kernel edges closed : List ℕ) (n : Tally) (cells offered rr sr : List ℕ) (st : State) (k : Told) : Type 0 where
   pub good : Good b
   pub state : s < STATES
-  pub firsts : Stored (firsts_of b) nullable first
   pub fillable : Fillable b st
   pub words : kernel ≡ words_of st.rows
   pub edges_are : edges ≡ st.edges

@@ -1,9 +1,8 @@
 -- What the calls that fill, copy and mark whole tables are lent, and what they leave. Assumes nothing.
-use Rattle.std.specs.Prelude.{Bool, List, [], ◌++◌, map, ◌≡◌, ℕ, ◌+◌, ◌*◌, ◌≤◌, ◌<◌, length, get_or, drop, replicate, take}
+use Rattle.std.specs.Prelude.{List, [], ◌++◌, map, ◌≡◌, ℕ, ◌+◌, ◌*◌, ◌≤◌, ◌<◌, length, get_or, drop, replicate, take, Result}
 use Rattle.block.specs.Limits.{ITEM}
 use Rattle.block.specs.Block.{tokens, rules, prods, symbols}
 use Rattle.block.specs.Refusal.{Good}
-use Rattle.block.specs.First.{firsts_of, Stored}
 use Rattle.pager.specs.Lists.{each, Answer, is, refused}
 use Rattle.pager.specs.Place.{State}
 use Rattle.pager.specs.Graph.{nowhere}
@@ -15,10 +14,11 @@ use Rattle.pager.specs.Call.{closed_part, zeroed}
 use Rattle.statetable.specs.Limits.{RECORDS, RR, SR}
 use Rattle.statetable.specs.Cells.{Rows}
 use Rattle.statetable.specs.Marks.{shift_mark, core_marks, reduce_only}
-use Rattle.statetable.specs.Laid.{words_rr, words_sr, tally_of, StoppedBy, Listed, AllIn}
+use Rattle.statetable.specs.Laid.{words_rr, words_sr, tally_of, GoesOn, StoppedBy, Listed, AllIn}
 use Rattle.statetable.specs.ForFilling.{Fillable}
 use Rattle.statetable.specs.declared.records.Caps.{Caps}
 use Rattle.statetable.specs.declared.records.Tally.{Tally}
+use Rattle.statetable.specs.declared.refusal.BuildRefusal.{BuildRefusal}
 
 -- rows one behind the other
 abbrev pub flat : List (List ℕ) → List ℕ
@@ -46,9 +46,8 @@ pub record TableRows (b : List ℕ) (n : ℕ) (rs : List (List ℕ)) : Type 0 wh
   pub actions : (i : ℕ) → i < n → AllIn b (get_or rs i [])
 
 -- ---- the cells of n states, in rooms that are zero and just as long as they must be
-pub record ForStates (b : List ℕ) (m : Caps) (n : ℕ) (nullable : List Bool) (first items spans edges closed actions offered rr sr : List ℕ) (ss : List State) : Type 0 where
+pub record ForStates (b : List ℕ) (m : Caps) (n : ℕ) (items spans edges closed actions offered rr sr : List ℕ) (ss : List State) : Type 0 where
   pub good : Good b
-  pub firsts : Stored (firsts_of b) nullable first
   pub graph : GraphIn b ss items spans edges
   pub number : n ≡ length ss
   pub room : ITEM * (symbols b + prods b) ≤ length closed
@@ -65,9 +64,9 @@ pub record FilledRows (b : List ℕ) (m : Caps) (states : ℕ) (d : Rows) (n : T
   pub actions-are : actions ≡ flat d.cells
   pub offered-are : offered ≡ flat d.offered
 
-abbrev pub FilledBy : Answer Rows → List ℕ → Caps → ℕ → Tally → List ℕ → List ℕ → List ℕ → List ℕ → Type 0
-FilledBy (is d) b m states n actions offered rr sr = FilledRows b m states d n actions offered rr sr
-FilledBy (refused why) b m states n actions offered rr sr = StoppedBy why n
+abbrev pub FilledBy : Answer Rows → List ℕ → Caps → ℕ → Result Tally BuildRefusal → List ℕ → List ℕ → List ℕ → List ℕ → Type 0
+FilledBy (is d) b m states r actions offered rr sr = GoesOn r (λ n. FilledRows b m states d n actions offered rr sr)
+FilledBy (refused why) b m states r actions offered rr sr = StoppedBy why r
 
 -- ---- the same in the first words of lent rooms, those words zero before
 pub record ForNamed (b : List ℕ) (m : Caps) (n : ℕ) (items spans edges closed actions offered rr sr : List ℕ) (ss : List State) : Type 0 where
@@ -91,16 +90,16 @@ pub record NamedRows (b : List ℕ) (m : Caps) (states : ℕ) (d : Rows) (n : Ta
   pub sr-are : sr' ≡ pad (SR * m.sr) (each words_sr d.told.sr) ++ drop (SR * m.sr) sr
 
 -- the filling had to stop; what stands behind the first words is as it was
-pub record NamedStop (b : List ℕ) (m : Caps) (states : ℕ) (why : List ℕ) (n : Tally) (actions offered rr sr actions' offered' rr' sr' : List ℕ) : Type 0 where
-  pub stopped : StoppedBy why n
+pub record NamedStop (b : List ℕ) (m : Caps) (states : ℕ) (why : List ℕ) (r : Result Tally BuildRefusal) (actions offered rr sr actions' offered' rr' sr' : List ℕ) : Type 0 where
+  pub stopped : StoppedBy why r
   pub actions-behind : Scratch (states * tokens b) actions actions'
   pub offered-behind : Scratch (states * tokens b) offered offered'
   pub rr-behind : Scratch (RR * m.rr) rr rr'
   pub sr-behind : Scratch (SR * m.sr) sr sr'
 
-abbrev pub NamedBy : Answer Rows → List ℕ → Caps → ℕ → Tally → List ℕ → List ℕ → List ℕ → List ℕ → List ℕ → List ℕ → List ℕ → List ℕ → Type 0
-NamedBy (is d) b m states n actions offered rr sr actions' offered' rr' sr' = NamedRows b m states d n actions offered rr sr actions' offered' rr' sr'
-NamedBy (refused why) b m states n actions offered rr sr actions' offered' rr' sr' = NamedStop b m states why n actions offered rr sr actions' offered' rr' sr'
+abbrev pub NamedBy : Answer Rows → List ℕ → Caps → ℕ → Result Tally BuildRefusal → List ℕ → List ℕ → List ℕ → List ℕ → List ℕ → List ℕ → List ℕ → List ℕ → Type 0
+NamedBy (is d) b m states r actions offered rr sr actions' offered' rr' sr' = GoesOn r (λ n. NamedRows b m states d n actions offered rr sr actions' offered' rr' sr')
+NamedBy (refused why) b m states r actions offered rr sr actions' offered' rr' sr' = NamedStop b m states why r actions offered rr sr actions' offered' rr' sr'
 
 -- ---- the same in lent rooms, which `most` states would fit
 pub record ForTables (b : List ℕ) (m : Caps) (most n : ℕ) (items spans edges closed actions offered rr sr : List ℕ) (ss : List State) : Type 0 where
@@ -122,12 +121,12 @@ abbrev pub given : {A : Type 0} → Answer A → ℕ → (A → List ℕ) → Li
 given (is a) n words before = pad n (words a) ++ drop n before
 given (refused why) n words before = replicate n 0 ++ drop n before
 
-abbrev pub TallyBy : Answer Rows → Tally → Type 0
-TallyBy (is d) n = n ≡ tally_of d.told
-TallyBy (refused why) n = StoppedBy why n
+abbrev pub TallyBy : Answer Rows → Result Tally BuildRefusal → Type 0
+TallyBy (is d) r = GoesOn r (λ n. n ≡ tally_of d.told)
+TallyBy (refused why) r = StoppedBy why r
 
-pub record TablesFilled (a : Answer Rows) (b : List ℕ) (m : Caps) (most states : ℕ) (n : Tally) (actions offered rr sr actions' offered' rr' sr' : List ℕ) : Type 0 where
-  pub tally : TallyBy a n
+pub record TablesFilled (a : Answer Rows) (b : List ℕ) (m : Caps) (most states : ℕ) (r : Result Tally BuildRefusal) (actions offered rr sr actions' offered' rr' sr' : List ℕ) : Type 0 where
+  pub tally : TallyBy a r
   pub rows : Given a (λ d. TableRows b states d.cells)
   pub actions-are : actions' ≡ given a (most * tokens b) (λ d. flat d.cells) actions
   pub offered-are : offered' ≡ given a (most * tokens b) (λ d. flat d.offered) offered

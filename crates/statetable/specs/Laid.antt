@@ -1,5 +1,5 @@
 -- The row of a state and the two lists as they lie in lent memory, and what a step of the filling leaves. Assumes nothing.
-use Rattle.std.specs.Prelude.{cond, List, [], ◌∷◌, ◌≡◌, ℕ, ◌*◌, ◌≤◌, ◌<◌, eqb, length, get_or}
+use Rattle.std.specs.Prelude.{List, [], ◌∷◌, ◌≡◌, ℕ, ◌*◌, ◌≤◌, ◌<◌, length, get_or, Result, Ok, Err}
 use Rattle.knuth.specs.Tables.{Action}
 use Rattle.block.specs.Block.{tokens, prods}
 use Rattle.block.specs.Refusal.{Good}
@@ -8,12 +8,14 @@ use Rattle.pager.specs.Memory.{pad}
 use Rattle.pager.specs.Held.{STATES}
 use Rattle.statetable.specs.Limits.{RECORDS, RR, SR}
 use Rattle.statetable.specs.Cell.{decode}
+use Rattle.statetable.specs.Refusals.{values_of}
 use Rattle.statetable.specs.Verdict.{Verdict, writes, two-reduces, unsettled, settled, stops}
 use Rattle.statetable.specs.Cells.{ReduceReduce, reduce-reduce, ShiftReduce, shift-reduce, Told, Fill}
 use Rattle.statetable.specs.declared.records.Caps.{Caps}
 use Rattle.statetable.specs.declared.records.Tally.{Tally}
 use Rattle.statetable.specs.declared.verdict.Verdict as code
-use Rattle.statetable.specs.declared.verdict.Verdict.TheVariants.{Write, TwoReduces, Unsettled, Settled, Meets, Mixed}
+use Rattle.statetable.specs.declared.verdict.Verdict.TheVariants.{Write, TwoReduces, Unsettled, Settled}
+use Rattle.statetable.specs.declared.refusal.BuildRefusal.{BuildRefusal}
 
 -- ---- the records as words
 abbrev pub words_rr : ReduceReduce → List ℕ
@@ -22,30 +24,30 @@ words_rr (reduce-reduce t a o s) = t ∷ a ∷ o ∷ s ∷ []
 abbrev pub words_sr : ShiftReduce → List ℕ
 words_sr (shift-reduce t p s) = t ∷ p ∷ s ∷ []
 
--- ---- what the code says of a verdict, and of the walk's stop
--- 11 with the reduce that was there and one more, or 0, then the production; 12 with token, production, state
-abbrev pub verdict_of : code.Verdict → Verdict
-verdict_of (Write w) = writes w
-verdict_of (TwoReduces w a o) = two-reduces w a o
-verdict_of (Unsettled w p) = unsettled w p
-verdict_of (Settled w) = settled w
-verdict_of (Meets x p) = stops (11 ∷ x ∷ p ∷ [])
-verdict_of (Mixed t p s) = stops (12 ∷ t ∷ p ∷ s ∷ [])
+-- ---- what the code says of a verdict, and of the walk
+abbrev pub settles_of : code.Verdict → Verdict
+settles_of (Write w) = writes w
+settles_of (TwoReduces w a o) = two-reduces w a o
+settles_of (Unsettled w p) = unsettled w p
+settles_of (Settled w) = settled w
 
-abbrev pub values : (stop x y z : ℕ) → List ℕ
-values stop x y z = cond (eqb stop 11) (11 ∷ x ∷ y ∷ []) (cond (eqb stop 12) (12 ∷ x ∷ y ∷ z ∷ []) (stop ∷ []))
+abbrev pub verdict_of : Result code.Verdict BuildRefusal → Verdict
+verdict_of (Ok v) = settles_of v
+verdict_of (Err e) = stops (values_of e)
 
-abbrev pub values_of : Tally → List ℕ
-values_of n = values n.stop n.x n.y n.z
-
--- the walk goes on
+-- the numbers of what was told
 abbrev pub tally_of : Told → Tally
-tally_of k = record { rr = length k.rr; sr = length k.sr; count = k.count; stop = 0; x = 0; y = 0; z = 0 }
+tally_of k = record { rr = length k.rr; sr = length k.sr; count = k.count }
+
+-- the walk goes on, with P of its numbers
+abbrev pub GoesOn : Result Tally BuildRefusal → (Tally → Type 0) → Type 0
+GoesOn (Ok n) P = P n
+GoesOn (Err e) P = ⊥
 
 -- the walk has stopped, and that is why
-pub record StoppedBy (why : List ℕ) (n : Tally) : Type 0 where
-  pub some : 0 < n.stop
-  pub is : why ≡ values_of n
+abbrev pub StoppedBy : List ℕ → Result Tally BuildRefusal → Type 0
+StoppedBy why (Ok n) = ⊥
+StoppedBy why (Err e) = why ≡ values_of e
 
 -- ---- a list with room for `most` records of `width` words holds records
 pub record ListOf {A : Type 0} (words : A → List ℕ) (width most : ℕ) (rs : List A) (buffer : List ℕ) : Type 0 where
@@ -67,9 +69,9 @@ pub record ForVerdict (m : Caps) (f : Fill) (n : Tally) (t : ℕ) (cells rr sr :
   pub narrow : t < STATES
   pub count : f.told.count < RECORDS * RECORDS
 
-abbrev pub SettledBy : Answer Fill → Caps → Tally → List ℕ → List ℕ → List ℕ → Type 0
-SettledBy (is g) m n cells rr sr = Listed m g.told n rr sr × (cells ≡ g.cells)
-SettledBy (refused why) m n cells rr sr = StoppedBy why n
+abbrev pub SettledBy : Answer Fill → Caps → Result Tally BuildRefusal → List ℕ → List ℕ → List ℕ → Type 0
+SettledBy (is g) m r cells rr sr = GoesOn r (λ n. Listed m g.told n rr sr × (cells ≡ g.cells))
+SettledBy (refused why) m r cells rr sr = StoppedBy why r
 
 -- ---- the row of a state
 -- an action of the grammar: what is reduced is a production
@@ -94,6 +96,6 @@ pub record Laid (b : List ℕ) (m : Caps) (s c : ℕ) (f : Fill) (n : Tally) (ce
   pub listed : Listed m f.told n rr sr
   pub count : f.told.count ≤ c
 
-abbrev pub LeftBy : Answer Fill → List ℕ → Caps → ℕ → ℕ → Tally → List ℕ → List ℕ → List ℕ → List ℕ → Type 0
-LeftBy (is g) b m s c n cells offered rr sr = Laid b m s c g n cells offered rr sr
-LeftBy (refused why) b m s c n cells offered rr sr = StoppedBy why n
+abbrev pub LeftBy : Answer Fill → List ℕ → Caps → ℕ → ℕ → Result Tally BuildRefusal → List ℕ → List ℕ → List ℕ → List ℕ → Type 0
+LeftBy (is g) b m s c r cells offered rr sr = GoesOn r (λ n. Laid b m s c g n cells offered rr sr)
+LeftBy (refused why) b m s c r cells offered rr sr = StoppedBy why r

@@ -1,4 +1,5 @@
 pub mod Limits
+pub mod Refusals
 pub mod Cell
 pub mod Named
 pub mod Read
@@ -8,6 +9,7 @@ pub mod Cells
 pub mod Marks
 pub mod Quiet
 pub mod Laid
+pub mod Filled
 pub mod ForFilling
 pub mod ForTables
 pub mod Build

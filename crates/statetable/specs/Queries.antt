@@ -1,15 +1,17 @@
 -- The queries of lent tables: a word of a row, or why there is none. Assumes nothing.
-use Rattle.std.specs.Prelude.{Bool, ◌&&◌, cond, List, [], ◌∷◌, ℕ, ◌+◌, ◌*◌, ◌%◌, ◌/◌, ltb, eqb, length, get_or}
+use Rattle.std.specs.Prelude.{Bool, ◌&&◌, cond, List, [], ◌∷◌, Result, Ok, Err, ℕ, ◌+◌, ◌*◌, ◌%◌, ◌/◌, ltb, eqb, length, get_or}
 use Rattle.knuth.specs.Tables as theory
 use Rattle.block.specs.Block.{tokens, rules}
 use Rattle.block.specs.Refusal.{refusal_of}
+use Rattle.block.specs.Refused as block
 use Rattle.pager.specs.Lists.{Answer, is, refused, unless}
 use Rattle.pager.specs.Held.{STATES}
 use Rattle.pager.specs.Call.{some_less}
 use Rattle.statetable.specs.Cell.{decode}
-use Rattle.statetable.specs.declared.queries.Acts.{Acts}
-use Rattle.statetable.specs.declared.queries.Found.{Found}
-use Rattle.statetable.specs.declared.queries.Found.TheVariants.{Word, Refused}
+use Rattle.statetable.specs.Named.{action_of}
+use Rattle.statetable.specs.declared.cell.Action.{Action}
+use Rattle.statetable.specs.declared.queries.QueryRefusal.{QueryRefusal}
+use Rattle.statetable.specs.declared.queries.QueryRefusal.TheVariants.{Block, RoomShort, NoSuch}
 
 -- 7: the state count out of range, or the table shorter than so many rows
 unfoldable pub table_short : (states length width : ℕ) → Bool
@@ -30,19 +32,22 @@ unfoldable pub column_of : List ℕ → ℕ → ℕ
 column_of b x =
     cond (eqb (x % 2) 0) (cond (ltb (x / 2) (rules b)) (x / 2) (rules b + tokens b)) (rules b + x / 2)
 
+-- document 01's number of a refusal
+abbrev pub number_of : QueryRefusal → ℕ
+number_of (Block e) = block.number_of e
+number_of RoomShort = 7
+number_of NoSuch = 18
+
 -- what the code answers
-abbrev pub found_of : Found → Answer ℕ
-found_of (Word w) = is w
-found_of (Refused n) = refused (n ∷ [])
+abbrev pub found_of : Result ℕ QueryRefusal → Answer ℕ
+found_of (Ok w) = is w
+found_of (Err e) = refused (number_of e ∷ [])
+
+abbrev pub acted_of : Result Action QueryRefusal → Answer theory.Action
+acted_of (Ok a) = is (action_of a)
+acted_of (Err e) = refused (number_of e ∷ [])
 
 -- a word read as a cell
 abbrev pub decoded : Answer ℕ → Answer theory.Action
 decoded (is w) = is (decode w)
 decoded (refused why) = refused why
-
-abbrev pub acted_of : Acts → Answer theory.Action
-acted_of Acts.Error = is theory.Action.error
-acted_of (Acts.Shift u) = is (theory.Action.shift u)
-acted_of (Acts.Reduce p) = is (theory.Action.reduce p)
-acted_of Acts.Accept = is theory.Action.accept
-acted_of (Acts.Refused n) = refused (n ∷ [])

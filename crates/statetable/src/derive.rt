@@ -1,71 +1,56 @@
-// Gotos and marks, once the cells are filled.
-ghost use Rattle.std.specs.Prelude.{List, ◌≡◌, ℕ, ◌*◌, ◌≤◌, length, take};
+//! Gotos and marks, once the cells are filled.
+ghost use Rattle.std.specs.Prelude.{List, ◌≡◌, ℕ, ◌*◌, ◌≤◌, length};
 ghost use Rattle.block.specs.Block.{tokens, rules, prods};
-ghost use Rattle.block.specs.Refusal.{Good};
 ghost use Rattle.pager.specs.Place.{State};
 ghost use Rattle.pager.specs.Held.{STATES};
 ghost use Rattle.pager.specs.Call.{zeroed};
 ghost use Rattle.statetable.specs.ForTables.{goto_words, ForGotos, ForDerived, Derived};
 
 use crate::marks::{mark_shifts, mark_states};
-use block::sizes_of;
-use pager::zero32;
+use block::Grammar;
 
-// As many words as there is room for.
-fn copy_row(from: &[u32], to: &mut [u32])
-    requires { length to.old ≤ length from.now }
-    ensures { to.new ≡ take (length to.old) from.now }
+/// The rule edges of all states: of each row of `edges`, rules before tokens, its first `rules` words.
+fn copy_gotos(grammar: Grammar<'_>, states: usize, edges: &[u32], gotos: &mut [u32])
+    requires { (ss : List State) × ForGotos grammar.words.now states edges.now gotos.old ss }
+    ensures { (ss : List State) → ForGotos grammar.entry.words.now states edges.now gotos.old ss → gotos.new ≡ goto_words grammar.entry.words.now ss }
 {
-    let mut i = 0usize;
-    while i < to.len() {
-        to[i] = from[i];
-        i += 1;
-    }
-}
-
-// The rule edges of all states.
-fn copy_gotos(block: &[u32], states: usize, edges: &[u32], gotos: &mut [u32])
-    requires { (ss : List State) × ForGotos block.now states edges.now gotos.old ss }
-    ensures { (ss : List State) → ForGotos block.now states edges.now gotos.old ss → gotos.new ≡ goto_words block.now ss }
-{
-    let z = sizes_of(block);
-    let width = z.rules + z.tokens;
-    let mut s = 0usize;
-    while s < states {
+    let rules = grammar.rules();
+    let width = rules + grammar.tokens();
+    for s in 0..states {
         let from = s * width;
-        let end = from + width;
-        let at = s * z.rules;
-        let to = at + z.rules;
-        copy_row(&edges[from..end], &mut gotos[at..to]);
-        s += 1;
+        let at = s * rules;
+        gotos[at..at + rules].copy_from_slice(&edges[from..from + rules]);
     }
 }
 
-// The named parts are zero.
+/// The parts for `most` states are zero, what stands behind them is as it was.
 fn clear_derived(
-    block: &[u32],
+    grammar: Grammar<'_>,
     most: usize,
     gotos: &mut [u32],
     shifts: &mut [u32],
     cores: &mut [u32],
     only: &mut [u32],
 )
-    requires { Good block.now × (most ≤ STATES) × (most * rules block.now ≤ length gotos.old) × (most * tokens block.now ≤ length shifts.old) × (most * prods block.now ≤ length cores.old) × (most ≤ length only.old) }
-    ensures gotos { gotos.new ≡ zeroed (most * rules block.now) gotos.old }
-    ensures shifts { shifts.new ≡ zeroed (most * tokens block.now) shifts.old }
-    ensures cores { cores.new ≡ zeroed (most * prods block.now) cores.old }
+    requires fair { most ≤ STATES }
+    requires gotos { most * rules grammar.words.now ≤ length gotos.old }
+    requires shifts { most * tokens grammar.words.now ≤ length shifts.old }
+    requires cores { most * prods grammar.words.now ≤ length cores.old }
+    requires only { most ≤ length only.old }
+    ensures gotos { gotos.new ≡ zeroed (most * rules grammar.entry.words.now) gotos.old }
+    ensures shifts { shifts.new ≡ zeroed (most * tokens grammar.entry.words.now) shifts.old }
+    ensures cores { cores.new ≡ zeroed (most * prods grammar.entry.words.now) cores.old }
     ensures only { only.new ≡ zeroed most only.old }
 {
-    let z = sizes_of(block);
-    zero32(gotos, most * z.rules);
-    zero32(shifts, most * z.tokens);
-    zero32(cores, most * z.prods);
-    zero32(only, most);
+    gotos[..most * grammar.rules()].fill(0);
+    shifts[..most * grammar.tokens()].fill(0);
+    cores[..most * grammar.productions()].fill(0);
+    only[..most].fill(0);
 }
 
-// Gotos and marks of the states, in rooms that `most` states would fit, zero where nothing stands.
+/// Gotos and marks of the states, in rooms that `most` states would fit, zero where nothing stands.
 pub fn derive_tables(
-    block: &[u32],
+    grammar: Grammar<'_>,
     most: usize,
     states: usize,
     edges: &[u32],
@@ -75,20 +60,24 @@ pub fn derive_tables(
     cores: &mut [u32],
     only: &mut [u32],
 )
-    requires { (ss : List State) × (rs : List (List ℕ)) × ForDerived block.now most states edges.now actions.now gotos.old shifts.old cores.old only.old ss rs }
-    ensures { (ss : List State) (rs : List (List ℕ)) → ForDerived block.now most states edges.now actions.now gotos.old shifts.old cores.old only.old ss rs
-        → Derived block.now most ss rs gotos.old shifts.old cores.old only.old gotos.new shifts.new cores.new only.new }
+    requires { (ss : List State) × (rs : List (List ℕ)) × ForDerived grammar.words.now most states edges.now actions.now gotos.old shifts.old cores.old only.old ss rs }
+    ensures { (ss : List State) (rs : List (List ℕ)) → ForDerived grammar.entry.words.now most states edges.now actions.now gotos.old shifts.old cores.old only.old ss rs
+        → Derived grammar.entry.words.now most ss rs gotos.old shifts.old cores.old only.old gotos.new shifts.new cores.new only.new }
 {
-    clear_derived(block, most, gotos, shifts, cores, only);
-    let z = sizes_of(block);
-    let cells = states * z.tokens;
-    copy_gotos(block, states, edges, &mut gotos[..states * z.rules]);
+    clear_derived(grammar, most, gotos, shifts, cores, only);
+    let cells = states * grammar.tokens();
+    copy_gotos(
+        grammar,
+        states,
+        edges,
+        &mut gotos[..states * grammar.rules()],
+    );
     mark_shifts(&actions[..cells], &mut shifts[..cells]);
     mark_states(
-        block,
+        grammar,
         states,
         &actions[..cells],
-        &mut cores[..states * z.prods],
+        &mut cores[..states * grammar.productions()],
         &mut only[..states],
     );
 }

@@ -1,7 +1,6 @@
-// The cells of one state: its complete items, then its token edges.
+//! The cells of one state: its complete items, then its token edges.
 ghost use Rattle.std.specs.Prelude.{List, map, ◌≡◌, ℕ, suc, ◌+◌, ◌*◌, ◌<◌};
-ghost use Rattle.block.specs.Block.{tokens};
-ghost use Rattle.block.specs.Refusal.{Known};
+ghost use Rattle.block.specs.Block.{tokens, prods};
 ghost use Rattle.block.specs.Sets.{members};
 ghost use Rattle.block.specs.First.{firsts_of};
 ghost use Rattle.itemset.specs.Rows.{Row};
@@ -9,157 +8,182 @@ ghost use Rattle.pager.specs.Lists.{each, walk};
 ghost use Rattle.pager.specs.Place.{State};
 ghost use Rattle.pager.specs.Held.{STATES};
 ghost use Rattle.statetable.specs.Events.{completes, leads, of_row, of_edges};
-ghost use Rattle.statetable.specs.Cells.{Told, Fill, fill, fill_state};
-ghost use Rattle.statetable.specs.Laid.{Laid, LeftBy};
+ghost use Rattle.statetable.specs.Cells.{Told, Fill, settle, fill, fill_state};
+ghost use Rattle.statetable.specs.Laid.{settles_of, LeftBy};
 ghost use Rattle.statetable.specs.ForFilling.{ForRow, ForEdges, ForState};
 
-use crate::records::{Caps, Tally, settle};
-use crate::verdict::{reduce_cell, shift_cell};
-use block::limits::{DOTS, FIRST_WORDS, ITEM, RULES};
-use block::{TokenSet, length_of, load, sizes_of};
+use crate::limits::{RR, SR};
+use crate::records::{Caps, Records, Tally};
+use crate::refusal::BuildRefusal;
+use crate::verdict::{Verdict, reduce_cell, shift_cell};
+use block::limits::{DOTS, ITEM};
+use block::{Firsts, Grammar, TokenSet};
 use itemset::close;
 
-// One token of a complete item of production p.
-fn complete_at(
-    block: &[u32],
-    cells: &mut [u32],
-    offered: &mut [u32],
-    rr: &mut [u32],
-    sr: &mut [u32],
-    caps: Caps,
-    n: Tally,
-    s: usize,
-    p: usize,
-    t: usize,
-) -> Tally
-    requires { Known block.now p × (t < tokens block.now) × ((f : Fill) × Laid block.now caps s (s * tokens block.now) f n cells.old offered.old rr.old sr.old) }
-    ensures { (f : Fill) → Laid block.now caps s (s * tokens block.now) f n cells.old offered.old rr.old sr.old
-        → LeftBy (fill block.now caps s f (completes t p)) block.now caps s (s * tokens block.now) result cells.new offered.new rr.new sr.new }
-{
-    let z = sizes_of(block);
-    offered[t] = 1;
-    let accepts = p == z.start && t == z.end;
-    let v = reduce_cell(cells[t], p as u32, accepts);
-    settle(cells, rr, sr, caps, n, s as u32, t, v)
+/// The row of a state and the two lists, in lent room; most records of each list, and what was told so far.
+#[derive(Drop)]
+pub struct Filling<'a> {
+    pub cells: &'a mut [u32],
+    pub offered: &'a mut [u32],
+    pub rr: &'a mut [u32],
+    pub sr: &'a mut [u32],
+    pub caps: Caps,
+    pub told: Tally,
+    pub state: u32,
 }
 
-// The edge on token t, to state `to`.
-fn shift_at(
-    block: &[u32],
-    cells: &mut [u32],
-    offered: &mut [u32],
-    rr: &mut [u32],
-    sr: &mut [u32],
-    caps: Caps,
-    n: Tally,
-    s: usize,
-    t: usize,
-    to: usize,
-) -> Tally
-    requires { (t < tokens block.now) × (to < STATES) × ((f : Fill) × Laid block.now caps s (s * tokens block.now + t) f n cells.old offered.old rr.old sr.old) }
-    ensures { (f : Fill) → Laid block.now caps s (s * tokens block.now + t) f n cells.old offered.old rr.old sr.old
-        → LeftBy (fill block.now caps s f (leads t to)) block.now caps s (s * tokens block.now + suc t) result cells.new offered.new rr.new sr.new }
-{
-    offered[t] = 1; // and it stays, also where precedence makes the cell an error
-    let v = shift_cell(block, cells[t], s as u32, t, to as u32);
-    settle(cells, rr, sr, caps, n, s as u32, t, v)
-}
+impl Filling<'_> {
+    ghost use Rattle.statetable.specs.Filled.{IsSame, ForVerdictIn, SettledIn, LaidIn, LeftIn};
 
-// The tokens of a complete item of production p, ascending.
-fn reduce_item(
-    block: &[u32],
-    cells: &mut [u32],
-    offered: &mut [u32],
-    rr: &mut [u32],
-    sr: &mut [u32],
-    caps: Caps,
-    start: Tally,
-    s: usize,
-    p: usize,
-    set: TokenSet,
-) -> Tally
-    requires { Known block.now p × ((f : Fill) × Laid block.now caps s (s * tokens block.now) f start cells.old offered.old rr.old sr.old) }
-    ensures { (f : Fill) → Laid block.now caps s (s * tokens block.now) f start cells.old offered.old rr.old sr.old
-        → LeftBy (walk (fill block.now caps s) f (map (λ t. completes t p) (members (tokens block.now) set.words)))
-        block.now caps s (s * tokens block.now) result cells.new offered.new rr.new sr.new }
-{
-    let tokens = sizes_of(block).tokens;
-    let mut n = start;
-    let mut t = set.next(0);
-    while t < tokens && n.stop == 0 {
-        n = complete_at(block, cells, offered, rr, sr, caps, n, s, p, t);
-        t = set.next(t + 1);
-    }
-    n
-}
-
-// The complete items among closed rows, ascending.
-fn reduces(
-    block: &[u32],
-    closed: &[u64],
-    cells: &mut [u32],
-    offered: &mut [u32],
-    rr: &mut [u32],
-    sr: &mut [u32],
-    caps: Caps,
-    start: Tally,
-    s: usize,
-) -> Tally
-    requires { ((C : List Row) × ForRow block.now closed.now C) × ((f : Fill) × Laid block.now caps s (s * tokens block.now) f start cells.old offered.old rr.old sr.old) }
-    ensures { (C : List Row) (f : Fill) → ForRow block.now closed.now C
-        → Laid block.now caps s (s * tokens block.now) f start cells.old offered.old rr.old sr.old
-        → LeftBy (walk (fill block.now caps s) f (each (of_row block.now) C))
-        block.now caps s (s * tokens block.now) result cells.new offered.new rr.new sr.new }
-{
-    let rows = closed.len() / ITEM;
-    let mut n = start;
-    let mut i = 0usize;
-    while i < rows && n.stop == 0 {
-        let item = closed[ITEM * i] as usize;
-        let p = item / DOTS;
-        if item % DOTS == length_of(block, p) {
-            let set = load(closed, ITEM * i + 1);
-            n = reduce_item(block, cells, offered, rr, sr, caps, n, s, p, set);
+    /// The verdict on cell t; 10 where its list has no room for the record that it asks for.
+    fn settle(&mut self, t: usize, v: Verdict) -> Result<(), BuildRefusal>
+        requires { (f : Fill) × ForVerdictIn f t self.old }
+        ensures settled { (f : Fill) → ForVerdictIn f t self.old → SettledIn (settle self.old.caps self.old.state t (settles_of v) f) self.old result self.new }
+        ensures offered { self.new.offered.now ≡ self.old.offered.now }
+        ensures same { IsSame self.old self.new }
+    {
+        match v {
+            Verdict::Write(w) => {
+                self.cells[t] = w;
+            }
+            Verdict::TwoReduces(w, smaller, other) => {
+                let mut list = Records::<RR> {
+                    words: self.rr,
+                    most: self.caps.rr,
+                    count: self.told.rr,
+                };
+                list.push([t as u32, smaller, other, self.state])?;
+                self.told.rr += 1;
+                self.cells[t] = w;
+            }
+            Verdict::Unsettled(w, p) => {
+                let mut list = Records::<SR> {
+                    words: self.sr,
+                    most: self.caps.sr,
+                    count: self.told.sr,
+                };
+                list.push([t as u32, p, self.state])?;
+                self.told.sr += 1;
+                self.cells[t] = w;
+            }
+            Verdict::Settled(w) => {
+                self.cells[t] = w;
+                self.told.count += 1;
+            }
         }
-        i += 1;
+        Ok(())
     }
-    n
-}
 
-// The token edges, ascending.
-fn shifts(
-    block: &[u32],
-    edges: &[u32],
-    cells: &mut [u32],
-    offered: &mut [u32],
-    rr: &mut [u32],
-    sr: &mut [u32],
-    caps: Caps,
-    start: Tally,
-    s: usize,
-) -> Tally
-    requires { ForEdges block.now edges.now × ((f : Fill) × Laid block.now caps s (s * tokens block.now) f start cells.old offered.old rr.old sr.old) }
-    ensures { (f : Fill) → Laid block.now caps s (s * tokens block.now) f start cells.old offered.old rr.old sr.old
-        → LeftBy (walk (fill block.now caps s) f (of_edges 0 edges.now))
-        block.now caps s (s * tokens block.now + tokens block.now) result cells.new offered.new rr.new sr.new }
-{
-    let mut n = start;
-    let mut t = 0usize;
-    while t < edges.len() && n.stop == 0 {
-        let e = edges[t] as usize;
-        if 0 < e {
-            n = shift_at(block, cells, offered, rr, sr, caps, n, s, t, e - 1);
+    /// One token of a complete item of production p.
+    fn complete_at(&mut self, grammar: Grammar<'_>, p: usize, t: usize) -> Result<(), BuildRefusal>
+        requires { (p < prods grammar.words.now) × (t < tokens grammar.words.now) × ((f : Fill) × LaidIn grammar.words.now (self.old.state * tokens grammar.words.now) f self.old) }
+        ensures left { (f : Fill) → LaidIn grammar.entry.words.now (self.old.state * tokens grammar.entry.words.now) f self.old
+            → LeftIn (fill grammar.entry.words.now self.old.caps self.old.state f (completes t p)) grammar.entry.words.now (self.old.state * tokens grammar.entry.words.now) self.old result self.new }
+        ensures same { IsSame self.old self.new }
+    {
+        self.offered[t] = 1;
+        let start = grammar.start();
+        let end = grammar.end();
+        let accepts = p == start && t == end;
+        let v = reduce_cell(self.cells[t], p as u32, accepts)?;
+        self.settle(t, v)
+    }
+
+    /// The edge on token t, to state `to`.
+    fn shift_at(&mut self, grammar: Grammar<'_>, t: usize, to: usize) -> Result<(), BuildRefusal>
+        requires { (t < tokens grammar.words.now) × (to < STATES) × ((f : Fill) × LaidIn grammar.words.now (self.old.state * tokens grammar.words.now + t) f self.old) }
+        ensures left { (f : Fill) → LaidIn grammar.entry.words.now (self.old.state * tokens grammar.entry.words.now + t) f self.old
+            → LeftIn (fill grammar.entry.words.now self.old.caps self.old.state f (leads t to)) grammar.entry.words.now (self.old.state * tokens grammar.entry.words.now + suc t) self.old result self.new }
+        ensures same { IsSame self.old self.new }
+    {
+        self.offered[t] = 1; // and it stays, also where precedence makes the cell an error
+        let v = shift_cell(grammar, self.cells[t], self.state, t, to as u32)?;
+        self.settle(t, v)
+    }
+
+    /// The tokens of a complete item of production p, ascending.
+    fn reduce_item(
+        &mut self,
+        grammar: Grammar<'_>,
+        p: usize,
+        set: TokenSet,
+    ) -> Result<(), BuildRefusal>
+        requires { (p < prods grammar.words.now) × ((f : Fill) × LaidIn grammar.words.now (self.old.state * tokens grammar.words.now) f self.old) }
+        ensures left { (f : Fill) → LaidIn grammar.entry.words.now (self.old.state * tokens grammar.entry.words.now) f self.old
+            → LeftIn (walk (fill grammar.entry.words.now self.old.caps self.old.state) f (map (λ t. completes t p) (members (tokens grammar.entry.words.now) set.words)))
+            grammar.entry.words.now (self.old.state * tokens grammar.entry.words.now) self.old result self.new }
+        ensures same { IsSame self.old self.new }
+    {
+        let tokens = grammar.tokens();
+        for t in set.tokens() {
+            if tokens <= t {
+                break;
+            }
+            self.complete_at(grammar, p, t)?;
         }
-        t += 1;
+        Ok(())
     }
-    n
+
+    /// The complete items among closed rows, ascending.
+    fn reduces(&mut self, grammar: Grammar<'_>, closed: &[u64]) -> Result<(), BuildRefusal>
+        requires { ((C : List Row) × ForRow grammar.words.now closed.now C) × ((f : Fill) × LaidIn grammar.words.now (self.old.state * tokens grammar.words.now) f self.old) }
+        ensures left { (C : List Row) (f : Fill) → ForRow grammar.entry.words.now closed.now C
+            → LaidIn grammar.entry.words.now (self.old.state * tokens grammar.entry.words.now) f self.old
+            → LeftIn (walk (fill grammar.entry.words.now self.old.caps self.old.state) f (each (of_row grammar.entry.words.now) C))
+            grammar.entry.words.now (self.old.state * tokens grammar.entry.words.now) self.old result self.new }
+        ensures same { IsSame self.old self.new }
+    {
+        for i in 0..closed.len() / ITEM {
+            let item = closed[ITEM * i] as usize;
+            let p = item / DOTS;
+            if item % DOTS == grammar.length(p) {
+                self.reduce_item(grammar, p, TokenSet::load(closed, ITEM * i + 1))?;
+            }
+        }
+        Ok(())
+    }
+
+    /// The token edges, ascending.
+    fn shifts(&mut self, grammar: Grammar<'_>, edges: &[u32]) -> Result<(), BuildRefusal>
+        requires { ForEdges grammar.words.now edges.now × ((f : Fill) × LaidIn grammar.words.now (self.old.state * tokens grammar.words.now) f self.old) }
+        ensures left { (f : Fill) → LaidIn grammar.entry.words.now (self.old.state * tokens grammar.entry.words.now) f self.old
+            → LeftIn (walk (fill grammar.entry.words.now self.old.caps self.old.state) f (of_edges 0 edges.now))
+            grammar.entry.words.now (self.old.state * tokens grammar.entry.words.now + tokens grammar.entry.words.now) self.old result self.new }
+        ensures same { IsSame self.old self.new }
+    {
+        for (t, edge) in edges.iter().enumerate() {
+            let e = *edge as usize;
+            if 0 < e {
+                self.shift_at(grammar, t, e - 1)?;
+            }
+        }
+        Ok(())
+    }
+
+    /// The row of the state, which is empty, from its kernel and its edges.
+    pub fn fill(
+        &mut self,
+        firsts: &Firsts<'_>,
+        kernel: &[u64],
+        edges: &[u32],
+        closed: &mut [u64],
+    ) -> Result<(), BuildRefusal>
+        requires { (st : State) × (k : Told) × ForState firsts.now.grammar.words.now self.old.caps self.old.state kernel.now edges.now closed.old self.old.told self.old.cells.now self.old.offered.now self.old.rr.now self.old.sr.now st k }
+        ensures left { (st : State) (k : Told) → ForState firsts.now.grammar.words.now self.old.caps self.old.state kernel.now edges.now closed.old self.old.told self.old.cells.now self.old.offered.now self.old.rr.now self.old.sr.now st k
+            → LeftIn (fill_state firsts.now.grammar.words.now (firsts_of firsts.now.grammar.words.now) self.old.caps self.old.state k st)
+            firsts.now.grammar.words.now (self.old.state * tokens firsts.now.grammar.words.now + tokens firsts.now.grammar.words.now) self.old result self.new }
+        ensures same { IsSame self.old self.new }
+    {
+        let grammar = firsts.grammar;
+        let rows = close(firsts, kernel, closed);
+        self.reduces(grammar, &closed[..ITEM * rows])?;
+        self.shifts(grammar, &edges[grammar.rules()..])
+    }
 }
 
-// The row of state s, which is empty, from its kernel and its edges.
+/// The row of state s, which is empty, from its kernel and its edges: the numbers of what was told then.
 pub fn fill_state(
-    block: &[u32],
-    nullable: &[bool; RULES],
-    first: &[u64; FIRST_WORDS],
+    firsts: &Firsts<'_>,
     kernel: &[u64],
     edges: &[u32],
     closed: &mut [u64],
@@ -168,29 +192,23 @@ pub fn fill_state(
     rr: &mut [u32],
     sr: &mut [u32],
     caps: Caps,
-    n: Tally,
+    told: Tally,
     s: usize,
-) -> Tally
-    requires { (st : State) × (k : Told) × ForState block.now caps s nullable.now first.now kernel.now edges.now closed.old n cells.old offered.old rr.old sr.old st k }
-    ensures { (st : State) (k : Told) → ForState block.now caps s nullable.now first.now kernel.now edges.now closed.old n cells.old offered.old rr.old sr.old st k
-        → LeftBy (fill_state block.now (firsts_of block.now) caps s k st)
-        block.now caps s (s * tokens block.now + tokens block.now) result cells.new offered.new rr.new sr.new }
+) -> Result<Tally, BuildRefusal>
+    requires { (st : State) × (k : Told) × ForState firsts.now.grammar.words.now caps s kernel.now edges.now closed.old told cells.old offered.old rr.old sr.old st k }
+    ensures { (st : State) (k : Told) → ForState firsts.now.grammar.words.now caps s kernel.now edges.now closed.old told cells.old offered.old rr.old sr.old st k
+        → LeftBy (fill_state firsts.now.grammar.words.now (firsts_of firsts.now.grammar.words.now) caps s k st)
+        firsts.now.grammar.words.now caps s (s * tokens firsts.now.grammar.words.now + tokens firsts.now.grammar.words.now) result cells.new offered.new rr.new sr.new }
 {
-    let rules = sizes_of(block).rules;
-    let rows = close(block, nullable, first, kernel, closed);
-    let m = reduces(
-        block,
-        &closed[..ITEM * rows],
+    let mut filling = Filling {
         cells,
         offered,
         rr,
         sr,
         caps,
-        n,
-        s,
-    );
-    if m.stop != 0 {
-        return m;
-    }
-    shifts(block, &edges[rules..], cells, offered, rr, sr, caps, m, s)
+        told,
+        state: s as u32,
+    };
+    filling.fill(firsts, kernel, edges, closed)?;
+    Ok(filling.told)
 }

@@ -1,4 +1,4 @@
-// Cells, gotos, conflict lists and marks of a graph, and the whole build (statetable.rs).
+//! Cells, gotos, conflict lists and marks of a graph, and the whole build (statetable.rs).
 #![tactic(auto)]
 
 mod call;
@@ -9,11 +9,13 @@ pub mod limits;
 mod marks;
 mod queries;
 mod records;
+mod refusal;
 mod states;
 mod verdict;
 
-pub use call::{Counts, Named, StateTable, build};
-pub use cell::{Action, decode};
+pub use call::{Counts, Named, build};
+pub use cell::Action;
 pub use queries::{
-    Acts, Found, action, cell_word, core_mark, edge, goto_word, offered, only_mark, shift_mark,
+    QueryRefusal, action, cell_word, core_mark, edge, goto_word, offered, only_mark, shift_mark,
 };
+pub use refusal::BuildRefusal;

@@ -1,115 +1,57 @@
-// The two conflict lists, the precedence count, and why the walk over the cells had to stop.
-ghost use Rattle.std.specs.Prelude.{List, [], ◌∷◌, ◌++◌, ◌≡◌, ℕ, ◌<◌, length};
-ghost use Rattle.statetable.specs.Limits.{RR, SR};
-ghost use Rattle.statetable.specs.Cells.{ReduceReduce, reduce-reduce, ShiftReduce, shift-reduce, Fill, settle};
-ghost use Rattle.statetable.specs.Laid.{words_rr, words_sr, verdict_of, ListOf, ForVerdict, SettledBy};
+//! The two conflict lists and the precedence count.
+ghost use Rattle.std.specs.Prelude.{◌++◌, ◌≡◌, ◌+◌, ◌*◌, ◌<◌, ◌≤◌, length, take, drop, OnOk, OnErr, IfErr};
+ghost use Rattle.statetable.specs.declared.refusal.BuildRefusal.TheVariants.{ConflictRoom};
 
-use crate::limits::{RR, SR};
-use crate::verdict::Verdict;
+use crate::refusal::BuildRefusal;
 
-// Most records in each list.
-#[derive(Clone, Copy)]
+/// Most records in each list.
+#[derive(Clone, Copy, Debug, PartialEq, Eq)]
 pub struct Caps {
     pub rr: usize,
     pub sr: usize,
 }
 
-// Records in each list, the choices made by precedence, and why the walk had to stop: 0 while it goes on; 10; 11 with the reduce that was there and one
-// more, or 0, then the production; 12 with token, production and state.
-#[derive(Clone, Copy)]
+/// Records in each list, and the choices made by precedence.
+#[derive(Clone, Copy, Debug, PartialEq, Eq)]
 pub struct Tally {
     pub rr: usize,
     pub sr: usize,
     pub count: usize,
-    pub stop: u32,
-    pub x: u32,
-    pub y: u32,
-    pub z: u32,
 }
 
-fn stopped(n: Tally, stop: u32, x: u32, y: u32, z: u32) -> Tally
-    ensures { result ≡ record { rr = n.rr; sr = n.sr; count = n.count; stop = stop; x = x; y = y; z = z } }
-{
-    Tally {
-        rr: n.rr,
-        sr: n.sr,
-        count: n.count,
-        stop,
-        x,
-        y,
-        z,
+/// Records of WIDTH words each, one behind the other, in room for `most` of them.
+#[derive(Drop)]
+pub struct Records<'a, const WIDTH: usize> {
+    pub words: &'a mut [u32],
+    pub most: usize,
+    pub count: usize,
+    ghost fits: { most * WIDTH ≤ length words.now },
+    ghost counted: { count ≤ most },
+}
+
+impl<const WIDTH: usize> Records<'_, WIDTH> {
+    /// One record more; where there is no room for it, it is refused and nothing is written.
+    pub fn push(&mut self, values: [u32; WIDTH]) -> Result<(), BuildRefusal>
+        ensures room { OnOk result (self.old.count < self.old.most) }
+        ensures full { IfErr result (λ e. (e ≡ ConflictRoom) × (self.old.most ≤ self.old.count)) }
+        ensures count { OnOk result (self.new.count ≡ self.old.count + 1) }
+        ensures words { OnOk result (self.new.words.now ≡ take (self.old.count * WIDTH) self.old.words.now ++ values.entry ++ drop (self.old.count * WIDTH + WIDTH) self.old.words.now) }
+        ensures kept { OnErr result ((self.new.count ≡ self.old.count) × (self.new.words.now ≡ self.old.words.now)) }
+        ensures same { self.new.words.ghost_name ≡ self.old.words.ghost_name }
+    {
+        if self.most <= self.count {
+            return Err(BuildRefusal::ConflictRoom);
+        }
+        copy(self.words, self.count * WIDTH, &values);
+        self.count += 1;
+        Ok(())
     }
 }
 
-// One record more in a list of reduce/reduce conflicts, as record i.
-fn put_rr(list: &mut [u32], most: usize, i: usize, token: u32, smaller: u32, other: u32, state: u32)
-    requires { (i < most) × ((rs : List ReduceReduce) × ListOf words_rr RR most rs list.old × (i ≡ length rs)) }
-    ensures { (rs : List ReduceReduce) → ListOf words_rr RR most rs list.old → i ≡ length rs
-        → ListOf words_rr RR most (rs ++ (reduce-reduce token smaller other state ∷ [])) list.new }
+/// The words put from `at` on.
+fn copy(words: &mut [u32], at: usize, from: &[u32])
+    requires { at + length from.now ≤ length words.old }
+    ensures { words.new ≡ take at words.old ++ from.now ++ drop (at + length from.now) words.old }
 {
-    let at = RR * i;
-    list[at] = token;
-    list[at + 1] = smaller;
-    list[at + 2] = other;
-    list[at + 3] = state;
-}
-
-// One record more in a list of shift/reduce conflicts, as record i.
-fn put_sr(list: &mut [u32], most: usize, i: usize, token: u32, production: u32, state: u32)
-    requires { (i < most) × ((rs : List ShiftReduce) × ListOf words_sr SR most rs list.old × (i ≡ length rs)) }
-    ensures { (rs : List ShiftReduce) → ListOf words_sr SR most rs list.old → i ≡ length rs
-        → ListOf words_sr SR most (rs ++ (shift-reduce token production state ∷ [])) list.new }
-{
-    let at = SR * i;
-    list[at] = token;
-    list[at + 1] = production;
-    list[at + 2] = state;
-}
-
-// The verdict on cell t of state s.
-pub fn settle(
-    cells: &mut [u32],
-    rr: &mut [u32],
-    sr: &mut [u32],
-    caps: Caps,
-    n: Tally,
-    s: u32,
-    t: usize,
-    v: Verdict,
-) -> Tally
-    requires { (f : Fill) × ForVerdict caps f n t cells.old rr.old sr.old }
-    ensures { (f : Fill) → ForVerdict caps f n t cells.old rr.old sr.old
-        → SettledBy (settle caps s t (verdict_of v) f) caps result cells.new rr.new sr.new }
-{
-    let mut m = n;
-    match v {
-        Verdict::Write(w) => {
-            cells[t] = w;
-        }
-        Verdict::TwoReduces(w, smaller, other) => {
-            let i = n.rr;
-            if caps.rr <= i {
-                return stopped(n, 10, 0, 0, 0);
-            }
-            cells[t] = w;
-            put_rr(rr, caps.rr, i, t as u32, smaller, other, s);
-            m.rr = i + 1;
-        }
-        Verdict::Unsettled(w, p) => {
-            let i = n.sr;
-            if caps.sr <= i {
-                return stopped(n, 10, 0, 0, 0);
-            }
-            cells[t] = w;
-            put_sr(sr, caps.sr, i, t as u32, p, s);
-            m.sr = i + 1;
-        }
-        Verdict::Settled(w) => {
-            cells[t] = w;
-            m.count = n.count + 1;
-        }
-        Verdict::Meets(x, p) => return stopped(n, 11, x, p, 0),
-        Verdict::Mixed(token, p, state) => return stopped(n, 12, token, p, state),
-    }
-    m
+    words[at..at + from.len()].copy_from_slice(from);
 }

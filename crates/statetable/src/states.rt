@@ -1,4 +1,4 @@
-// The cells and offered marks of all states, the two lists and the precedence count.
+//! The cells and offered marks of all states, the two lists and the precedence count.
 ghost use Rattle.std.specs.Prelude.{List, ◌≡◌, ℕ, ◌*◌, ◌≤◌, length};
 ghost use Rattle.block.specs.First.{firsts_of};
 ghost use Rattle.pager.specs.Place.{State};
@@ -10,15 +10,14 @@ ghost use Rattle.statetable.specs.ForTables.{ForStates, FilledBy, ForNamed, Name
 use crate::fill::fill_state;
 use crate::limits::{RR, SR};
 use crate::records::{Caps, Tally};
-use block::limits::{FIRST_WORDS, ITEM, RULES};
-use block::{firsts, sizes_of};
-use pager::{kernel_of, zero32, zero64};
+use crate::refusal::BuildRefusal;
+use block::limits::ITEM;
+use block::{Firsts, Grammar};
+use pager::kernel_of;
 
-// State by state, into rooms that are zero and just long enough.
+/// State by state, into rooms that are zero and just long enough.
 fn fill_states(
-    block: &[u32],
-    nullable: &[bool; RULES],
-    first: &[u64; FIRST_WORDS],
+    firsts: &Firsts<'_>,
     states: usize,
     items: &[u64],
     spans: &[u32],
@@ -29,32 +28,25 @@ fn fill_states(
     rr: &mut [u32],
     sr: &mut [u32],
     caps: Caps,
-) -> Tally
-    requires { (ss : List State) × ForStates block.now caps states nullable.now first.now items.now spans.now edges.now closed.old actions.old offered.old rr.old sr.old ss }
-    ensures { (ss : List State) → ForStates block.now caps states nullable.now first.now items.now spans.now edges.now closed.old actions.old offered.old rr.old sr.old ss
-        → FilledBy (cells_of block.now (firsts_of block.now) caps ss) block.now caps states result actions.new offered.new rr.new sr.new }
+) -> Result<Tally, BuildRefusal>
+    requires { (ss : List State) × ForStates firsts.now.grammar.words.now caps states items.now spans.now edges.now closed.old actions.old offered.old rr.old sr.old ss }
+    ensures { (ss : List State) → ForStates firsts.now.grammar.words.now caps states items.now spans.now edges.now closed.old actions.old offered.old rr.old sr.old ss
+        → FilledBy (cells_of firsts.now.grammar.words.now (firsts_of firsts.now.grammar.words.now) caps ss) firsts.now.grammar.words.now caps states result actions.new offered.new rr.new sr.new }
 {
-    let z = sizes_of(block);
-    let width = z.rules + z.tokens;
+    let tokens = firsts.grammar.tokens();
+    let width = firsts.grammar.rules() + tokens;
     let mut n = Tally {
         rr: 0,
         sr: 0,
         count: 0,
-        stop: 0,
-        x: 0,
-        y: 0,
-        z: 0,
     };
-    let mut s = 0usize;
-    while s < states && n.stop == 0 {
-        let at = s * z.tokens;
-        let end = at + z.tokens;
+    for s in 0..states {
+        let at = s * tokens;
+        let end = at + tokens;
         let from = s * width;
         let to = from + width;
         n = fill_state(
-            block,
-            nullable,
-            first,
+            firsts,
             kernel_of(items, spans, s),
             &edges[from..to],
             closed,
@@ -65,13 +57,12 @@ fn fill_states(
             caps,
             n,
             s,
-        );
-        s += 1;
+        )?;
     }
-    n
+    Ok(n)
 }
 
-// The first words of the four outputs are zero.
+/// The first words of the four outputs are zero.
 fn clear_cells(
     cells: usize,
     caps: Caps,
@@ -86,15 +77,15 @@ fn clear_cells(
     ensures rr { rr.new ≡ zeroed (RR * caps.rr) rr.old }
     ensures sr { sr.new ≡ zeroed (SR * caps.sr) sr.old }
 {
-    zero32(actions, cells);
-    zero32(offered, cells);
-    zero32(rr, RR * caps.rr);
-    zero32(sr, SR * caps.sr);
+    actions[..cells].fill(0);
+    offered[..cells].fill(0);
+    rr[..RR * caps.rr].fill(0);
+    sr[..SR * caps.sr].fill(0);
 }
 
-// The filling in the first words of lent rooms, all of them zero before.
+/// The filling in the first words of lent rooms, all of them zero before.
 fn fill_named(
-    block: &[u32],
+    grammar: Grammar<'_>,
     states: usize,
     caps: Caps,
     items: &[u64],
@@ -105,22 +96,17 @@ fn fill_named(
     offered: &mut [u32],
     rr: &mut [u32],
     sr: &mut [u32],
-) -> Tally
-    requires { (ss : List State) × ForNamed block.now caps states items.now spans.now edges.now closed.old actions.old offered.old rr.old sr.old ss }
-    ensures filled { (ss : List State) → ForNamed block.now caps states items.now spans.now edges.now closed.old actions.old offered.old rr.old sr.old ss
-        → NamedBy (cells_of block.now (firsts_of block.now) caps ss) block.now caps states result actions.old offered.old rr.old sr.old actions.new offered.new rr.new sr.new }
-    ensures closed { closed.new ≡ zeroed (closed_part block.now) closed.old }
+) -> Result<Tally, BuildRefusal>
+    requires { (ss : List State) × ForNamed grammar.words.now caps states items.now spans.now edges.now closed.old actions.old offered.old rr.old sr.old ss }
+    ensures filled { (ss : List State) → ForNamed grammar.entry.words.now caps states items.now spans.now edges.now closed.old actions.old offered.old rr.old sr.old ss
+        → NamedBy (cells_of grammar.entry.words.now (firsts_of grammar.entry.words.now) caps ss) grammar.entry.words.now caps states result actions.old offered.old rr.old sr.old actions.new offered.new rr.new sr.new }
+    ensures closed { closed.new ≡ zeroed (closed_part grammar.entry.words.now) closed.old }
 {
-    let z = sizes_of(block);
-    let f = firsts(block);
-    let nullable = f.nullable;
-    let first = f.first;
-    let cells = states * z.tokens;
-    let work = ITEM * (z.symbols + z.prods);
-    let n = fill_states(
-        block,
-        &nullable,
-        &first,
+    let firsts = Firsts::new(grammar);
+    let cells = states * grammar.tokens();
+    let work = ITEM * (grammar.symbols() + grammar.productions());
+    let filled = fill_states(
+        &firsts,
         states,
         items,
         spans,
@@ -132,13 +118,13 @@ fn fill_named(
         &mut sr[..SR * caps.sr],
         caps,
     );
-    zero64(closed, work);
-    n
+    closed[..work].fill(0);
+    filled
 }
 
-// The filling in rooms that `most` states would fit, zero where nothing stands, and zero all over where it had to stop.
+/// The filling in rooms that `most` states would fit, zero where nothing stands, and zero all over where it had to stop.
 pub fn fill_tables(
-    block: &[u32],
+    grammar: Grammar<'_>,
     most: usize,
     states: usize,
     caps: Caps,
@@ -150,19 +136,19 @@ pub fn fill_tables(
     offered: &mut [u32],
     rr: &mut [u32],
     sr: &mut [u32],
-) -> Tally
-    requires { (ss : List State) × ForTables block.now caps most states items.now spans.now edges.now closed.old actions.old offered.old rr.old sr.old ss }
-    ensures filled { (ss : List State) → ForTables block.now caps most states items.now spans.now edges.now closed.old actions.old offered.old rr.old sr.old ss
-        → TablesFilled (cells_of block.now (firsts_of block.now) caps ss) block.now caps most states result actions.old offered.old rr.old sr.old actions.new offered.new rr.new sr.new }
-    ensures closed { closed.new ≡ zeroed (closed_part block.now) closed.old }
+) -> Result<Tally, BuildRefusal>
+    requires { (ss : List State) × ForTables grammar.words.now caps most states items.now spans.now edges.now closed.old actions.old offered.old rr.old sr.old ss }
+    ensures filled { (ss : List State) → ForTables grammar.entry.words.now caps most states items.now spans.now edges.now closed.old actions.old offered.old rr.old sr.old ss
+        → TablesFilled (cells_of grammar.entry.words.now (firsts_of grammar.entry.words.now) caps ss) grammar.entry.words.now caps most states result actions.old offered.old rr.old sr.old actions.new offered.new rr.new sr.new }
+    ensures closed { closed.new ≡ zeroed (closed_part grammar.entry.words.now) closed.old }
 {
-    let cells = most * sizes_of(block).tokens;
+    let cells = most * grammar.tokens();
     clear_cells(cells, caps, actions, offered, rr, sr);
-    let n = fill_named(
-        block, states, caps, items, spans, edges, closed, actions, offered, rr, sr,
+    let filled = fill_named(
+        grammar, states, caps, items, spans, edges, closed, actions, offered, rr, sr,
     );
-    if n.stop != 0 {
+    if filled.is_err() {
         clear_cells(cells, caps, actions, offered, rr, sr);
     }
-    n
+    filled
 }

@@ -1,62 +1,45 @@
-// What a build answered, as text. An error is that of the write that failed; what was printed before it stays.
-use block::word;
+//! What a build answered, as text. An error is that of the write that failed; what was printed before it stays.
+use block::Grammar;
 use statetable::limits::{RR, SR};
-use statetable::{Counts, StateTable};
+use statetable::{BuildRefusal, Counts};
 use std::io;
-
-// A line: what it is, and its number.
-pub fn tell(rt: &impl Print, what: &[u8], number: usize) -> io::Result<()> {
-    rt.write_all(what)?;
-    println!(rt; "{number}")
-}
-
-fn tell_word(rt: &impl Print, word: u32) -> io::Result<()> {
-    print!(rt; " {word}")
-}
 
 fn tell_words(rt: &impl Print, words: &[u32]) -> io::Result<()> {
     for word in words {
-        tell_word(rt, *word)?;
+        print!(rt; " {word}")?;
     }
     Ok(())
 }
 
-// Row i of rows of that width; empty where it does not stand whole.
+/// Row i of rows of that width; empty where it does not stand whole.
 fn row(table: &[u32], width: usize, i: usize) -> &[u32] {
-    if width == 0 {
+    let Some(start) = width.checked_mul(i) else {
         return &table[..0];
-    }
-    if table.len() / width <= i {
-        return &table[..0];
-    }
-    let start = width * i;
-    &table[start..start + width]
+    };
+    table
+        .get(start..start.saturating_add(width))
+        .unwrap_or(&table[..0])
 }
 
-// Each state: its cells by token, then its gotos by rule.
+/// Each state: its cells by token, then its gotos by rule.
 fn tell_states(
     rt: &impl Print,
-    block: &[u32],
+    grammar: Grammar<'_>,
     states: usize,
     actions: &[u32],
     gotos: &[u32],
 ) -> io::Result<()> {
-    if block.len() < 2 {
-        return Ok(());
-    }
-    let tokens = word(block, 0);
-    let rules = word(block, 1);
     for s in 0..states {
         print!(rt; "state {s}:")?;
-        tell_words(rt, row(actions, tokens, s))?;
+        tell_words(rt, row(actions, grammar.tokens(), s))?;
         print!(rt; " /")?;
-        tell_words(rt, row(gotos, rules, s))?;
+        tell_words(rt, row(gotos, grammar.rules(), s))?;
         println!(rt; "")?;
     }
     Ok(())
 }
 
-// The records of a list, so many, of that width.
+/// The records of a list, so many, of that width.
 fn tell_records(
     rt: &impl Print,
     what: &str,
@@ -73,42 +56,51 @@ fn tell_records(
 }
 
 fn tell_counts(rt: &impl Print, counts: Counts) -> io::Result<()> {
-    tell(rt, b"states ", counts.states)?;
-    tell(rt, b"items ", counts.items)?;
-    tell(rt, b"states before collection ", counts.before)?;
-    tell(rt, b"reduce/reduce records ", counts.rr)?;
-    tell(rt, b"shift/reduce records ", counts.sr)?;
-    tell(rt, b"settled by precedence ", counts.count)
+    println!(rt; "states {}", counts.states)?;
+    println!(rt; "items {}", counts.items)?;
+    println!(rt; "states before collection {}", counts.before)?;
+    println!(rt; "reduce/reduce records {}", counts.rr)?;
+    println!(rt; "shift/reduce records {}", counts.sr)?;
+    println!(rt; "settled by precedence {}", counts.count)
 }
 
-// The number of a refusal and the values that it gives.
-fn tell_refusal(rt: &impl Print, answer: StateTable) -> io::Result<()> {
-    match answer {
-        StateTable::Made(_) => println!(rt; "refused"),
-        StateTable::Refused(n) => println!(rt; "refused {n}"),
-        StateTable::AcceptSome(there, start) => println!(rt; "refused 11 {there} {start}"),
-        StateTable::AcceptNone(coming) => println!(rt; "refused 11 none {coming}"),
-        StateTable::MixedKinds(token, production, state) => {
-            println!(rt; "refused 12 {token} {production} {state}")
-        }
+/// The number of a refusal and the values that it gives.
+fn tell_refusal(rt: &impl Print, refusal: BuildRefusal) -> io::Result<()> {
+    let number = refusal.number();
+    match refusal {
+        BuildRefusal::AcceptReduce {
+            there: Some(there),
+            coming,
+        } => println!(rt; "refused {number} {there} {coming}"),
+        BuildRefusal::AcceptReduce {
+            there: None,
+            coming,
+        } => println!(rt; "refused {number} none {coming}"),
+        BuildRefusal::MixedKinds {
+            token,
+            production,
+            state,
+        } => { println!(rt; "refused {number} {token} {production} {state}") }
+        _ => println!(rt; "refused {number}"),
     }
 }
 
-// The whole answer: counts, a line for each state and each record, or the refusal.
+/// The whole answer: counts, a line for each state and each record, or the refusal.
 pub fn tell_answer(
     rt: &impl Print,
-    block: &[u32],
-    answer: StateTable,
+    grammar: Grammar<'_>,
+    answer: Result<Counts, BuildRefusal>,
     actions: &[u32],
     gotos: &[u32],
     rr: &[u32],
     sr: &[u32],
 ) -> io::Result<()> {
-    let StateTable::Made(counts) = answer else {
-        return tell_refusal(rt, answer);
+    let counts = match answer {
+        Ok(counts) => counts,
+        Err(refusal) => return tell_refusal(rt, refusal),
     };
     tell_counts(rt, counts)?;
-    tell_states(rt, block, counts.states, actions, gotos)?;
+    tell_states(rt, grammar, counts.states, actions, gotos)?;
     tell_records(rt, "reduce/reduce", rr, RR, counts.rr)?;
     tell_records(rt, "shift/reduce", sr, SR, counts.sr)
 }

@@ -1,4 +1,4 @@
-// The calls: the check of a block, the build, the graph alone, the machine. Each is the lower crate's, its answer in words.
+//! The calls: the check of a block, the build, the graph alone, the machine. Each is the lower crate's, its answer in words.
 ghost use Rattle.std.specs.Prelude.{◌≡◌, length};
 ghost use Rattle.block.specs.Refusal.{refusal_of};
 ghost use Rattle.pager.specs.Call as pager;
@@ -10,19 +10,22 @@ ghost use Rattle.machine.specs.Call.{called, run_call, told};
 ghost use Rattle.timkerzal.specs.Words.{named, built_words, graph_words, ran_words};
 
 use crate::words::{BUILT, GRAPHED, RAN, built_words, graph_words, ran_words};
-use block::{check_block, number};
+use block::Grammar;
 use machine::run;
 use pager::graph;
 use statetable::{Named, build};
 
-// The number of the refusal of a block: 1 to 6, or 0 for a good block.
+/// The number of the refusal of a block: 1 to 6, or 0 for a good block.
 pub fn timkerzal_check(block: &[u32]) -> u32
     ensures { result ≡ refusal_of block.now }
 {
-    number(check_block(block))
+    match Grammar::check(block) {
+        Ok(_) => 0,
+        Err(refusal) => refusal.number(),
+    }
 }
 
-// Graph and tables of any block, with the rooms that the caller names.
+/// Graph and tables of any block, with the rooms that the caller names.
 pub fn timkerzal_build(
     block: &[u32],
     states: usize,
@@ -57,14 +60,13 @@ pub fn timkerzal_build(
         rr: rr_most,
         sr: sr_most,
     };
-    let r = build(
+    *answer = built_words(build(
         block, room, items, spans, edges, actions, gotos, offered, shifts, cores, only, rr, sr,
         marks, closed, kernel,
-    );
-    *answer = built_words(r);
+    ));
 }
 
-// The graph alone of any block.
+/// The graph alone of any block.
 pub fn timkerzal_graph(
     block: &[u32],
     states: usize,
@@ -83,13 +85,12 @@ pub fn timkerzal_graph(
         ≡ pager.leaves block.now (pager.named states most)
         (lent items.old spans.old edges.old marks.old closed.old kernel.old) }
 {
-    let r = graph(
+    *answer = graph_words(graph(
         block, states, most, items, spans, edges, marks, closed, kernel,
-    );
-    *answer = graph_words(r);
+    ));
 }
 
-// The machine on any block, tables and input, in at most `limit` steps.
+/// The machine on any block, tables and input, in at most `limit` steps.
 pub fn timkerzal_run(
     block: &[u32],
     states: usize,
@@ -110,6 +111,5 @@ pub fn timkerzal_run(
         (run_call (called block.now states actions.now gotos.now input.now limit stack.old output.old))
         output.old }
 {
-    let r = run(block, states, actions, gotos, input, limit, stack, output);
-    *answer = ran_words(r);
+    *answer = ran_words(run(block, states, actions, gotos, input, limit, stack, output));
 }

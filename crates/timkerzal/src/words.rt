@@ -1,32 +1,38 @@
-// Answers as words: the number of a refusal, 0 for none, and the values behind it.
+//! Answers as words: the number of a refusal, 0 for none, and the values behind it.
 ghost use Rattle.std.specs.Prelude.{◌≡◌};
 ghost use Rattle.pager.specs.Call as graph;
+ghost use Rattle.pager.specs.Lists.{refused};
 ghost use Rattle.statetable.specs.Build as build;
+ghost use Rattle.statetable.specs.Refusals.{values_of};
 ghost use Rattle.statetable.specs.Queries.{found_of, acted_of};
 ghost use Rattle.machine.specs.Call as machine;
 ghost use Rattle.timkerzal.specs.Words.{built_words, graph_words, ran_words, found_words, act_words};
 
-use machine::Ran;
-use pager::Graphed;
-use statetable::{Acts, Found, StateTable};
+use machine::{Ended, How, RunRefusal};
+use pager::{GraphRefusal, Kept};
+use statetable::{Action, BuildRefusal, Counts, QueryRefusal};
 
-// Words of the answer of a build, of a graph, of a run, of a query, of a query of an action.
+/// Words of the answer of a build.
 pub const BUILT: usize = 7;
 
+/// Words of the answer of a graph.
 pub const GRAPHED: usize = 4;
 
+/// Words of the answer of a run.
 pub const RAN: usize = 6;
 
+/// Words of the answer of a query.
 pub const FOUND: usize = 2;
 
+/// Words of the answer of a query of an action.
 pub const ACTS: usize = 3;
 
-// 0, states, items, states before collection, records of the two lists, precedence count; or a refusal and its values.
-pub fn built_words(r: StateTable) -> [u64; BUILT]
+/// 0, states, items, states before collection, records of the two lists, precedence count; or a refusal and its values.
+pub fn built_words(r: Result<Counts, BuildRefusal>) -> [u64; BUILT]
     ensures { result ≡ built_words (build.answer_of r) }
 {
     match r {
-        StateTable::Made(k) => [
+        Ok(k) => [
             0,
             k.states as u64,
             k.items as u64,
@@ -35,76 +41,107 @@ pub fn built_words(r: StateTable) -> [u64; BUILT]
             k.sr as u64,
             k.count as u64,
         ],
-        StateTable::Refused(n) => [n as u64, 0, 0, 0, 0, 0, 0],
-        StateTable::AcceptSome(q, p) => [11, q as u64 + 1, p as u64, 0, 0, 0, 0],
-        StateTable::AcceptNone(p) => [11, 0, p as u64, 0, 0, 0, 0],
-        StateTable::MixedKinds(t, p, s) => [12, t as u64, p as u64, s as u64, 0, 0, 0],
+        Err(refusal) => refused_words(refusal),
     }
 }
 
-// 0, states, items, states before collection; or a refusal.
-pub fn graph_words(r: Graphed) -> [u64; GRAPHED]
+/// The number of a refusal and its values: of 11 the reduce that was there and one more, or 0 for none, and the production
+/// that came; of 12 token, production, state.
+fn refused_words(refusal: BuildRefusal) -> [u64; BUILT]
+    ensures { result ≡ built_words (refused (values_of refusal)) }
+{
+    let number = refusal.number() as u64;
+    match refusal {
+        BuildRefusal::Block(_)
+        | BuildRefusal::RoomShort
+        | BuildRefusal::StateRoom
+        | BuildRefusal::ItemRoom
+        | BuildRefusal::ConflictRoom => [number, 0, 0, 0, 0, 0, 0],
+        BuildRefusal::AcceptReduce {
+            there: Some(r),
+            coming,
+        } => [number, r as u64 + 1, coming as u64, 0, 0, 0, 0],
+        BuildRefusal::AcceptReduce {
+            there: None,
+            coming,
+        } => [number, 0, coming as u64, 0, 0, 0, 0],
+        BuildRefusal::MixedKinds {
+            token,
+            production,
+            state,
+        } => [
+            number,
+            token as u64,
+            production as u64,
+            state as u64,
+            0,
+            0,
+            0,
+        ],
+    }
+}
+
+/// 0, states, items, states before collection; or a refusal.
+pub fn graph_words(r: Result<Kept, GraphRefusal>) -> [u64; GRAPHED]
     ensures { result ≡ graph_words (graph.answer_of r) }
 {
     match r {
-        Graphed::Built(k) => [0, k.states as u64, k.items as u64, k.before as u64],
-        Graphed::Refused(n) => [n as u64, 0, 0, 0],
+        Ok(k) => [0, k.states as u64, k.items as u64, k.before as u64],
+        Err(refusal) => [refusal.number() as u64, 0, 0, 0],
     }
 }
 
-// A refusal or 0, 1 for accept, the place, reductions, steps, the stack's height.
-pub fn ran_words(r: Ran) -> [u64; RAN]
+/// A refusal or 0, 1 for accept, the place, reductions, steps, the stack's height.
+pub fn ran_words(r: Result<Ended, RunRefusal>) -> [u64; RAN]
     ensures { result ≡ ran_words (machine.answer_of r) }
 {
     match r {
-        Ran::Accept(e) => [
-            0,
-            1,
-            e.at as u64,
-            e.k as u64,
-            e.steps as u64,
-            e.height as u64,
-        ],
-        Ran::Reject(e) => [
-            0,
-            0,
-            e.at as u64,
-            e.k as u64,
-            e.steps as u64,
-            e.height as u64,
-        ],
-        Ran::Stopped(n, e) => [
-            n as u64,
-            0,
-            e.at as u64,
-            e.k as u64,
-            e.steps as u64,
-            e.height as u64,
-        ],
-        Ran::Refused(n) => [n as u64, 0, 0, 0, 0, 0],
-        Ran::BadToken(i) => [13, 0, i as u64, 0, 0, 0],
+        Ok(ended) => ended_words(ended),
+        Err(RunRefusal::Block(refusal)) => [refusal.number() as u64, 0, 0, 0, 0, 0],
+        Err(RunRefusal::RoomShort) => [7, 0, 0, 0, 0, 0],
+        Err(RunRefusal::BadToken { place }) => [13, 0, place as u64, 0, 0, 0],
     }
 }
 
-// A refusal or 0, and the word.
-pub fn found_words(r: Found) -> [u32; FOUND]
+/// The same of a run that began.
+fn ended_words(ended: Ended) -> [u64; RAN]
+    ensures { result ≡ ran_words (machine.ended_of ended) }
+{
+    let (number, accepts) = match ended.how {
+        How::Accept => (0, 1),
+        How::Reject => (0, 0),
+        How::Stopped(stop) => (stop.number(), 0),
+    };
+    let run = ended.run;
+    [
+        number as u64,
+        accepts,
+        run.at as u64,
+        run.k as u64,
+        run.steps as u64,
+        run.height as u64,
+    ]
+}
+
+/// A refusal or 0, and the word.
+pub fn found_words(r: Result<u32, QueryRefusal>) -> [u32; FOUND]
     ensures { result ≡ found_words (found_of r) }
 {
     match r {
-        Found::Word(x) => [0, x],
-        Found::Refused(n) => [n, 0],
+        Ok(x) => [0, x],
+        Err(refusal) => [refusal.number(), 0],
     }
 }
 
-// A refusal or 0; 0 error, 1 shift, 2 reduce, 3 accept; the state or the production.
-pub fn act_words(r: Acts) -> [u32; ACTS]
+/// A refusal or 0; 0 error, 1 shift, 2 reduce, 3 accept; the state or the production.
+pub fn act_words(r: Result<Action, QueryRefusal>) -> [u32; ACTS]
     ensures { result ≡ act_words (acted_of r) }
 {
     match r {
-        Acts::Error => [0, 0, 0],
-        Acts::Shift(s) => [0, 1, s],
-        Acts::Reduce(p) => [0, 2, p],
-        Acts::Accept => [0, 3, 0],
-        Acts::Refused(n) => [n, 0, 0],
+        Ok(Action::Error) => [0, 0, 0],
+        Ok(Action::Shift(s)) => [0, 1, s],
+        Ok(Action::Reduce(p)) => [0, 2, p],
+        Ok(Action::Accept) => [0, 3, 0],
+        Err(refusal) => [refusal.number(), 0, 0],
     }
 }

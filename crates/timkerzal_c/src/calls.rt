@@ -1,4 +1,4 @@
-// The calls: the check of a block, the build, the graph alone, the machine. Each is the library's.
+//! The calls: the check of a block, the build, the graph alone, the machine. Each is the library's.
 ghost use Rattle.std.specs.Prelude.{◌≡◌, length};
 ghost use Rattle.block.specs.Refusal.{refusal_of};
 ghost use Rattle.pager.specs.Call as pager;
@@ -11,7 +11,7 @@ ghost use Rattle.timkerzal.specs.Words.{named, built_words, graph_words, ran_wor
 
 use timkerzal::{BUILT, GRAPHED, RAN};
 
-// The number of the refusal of a block: 1 to 6, or 0 for a good block.
+/// The number of the refusal of a block: 1 to 6, or 0 for a good block.
 #[unsafe(no_mangle)]
 pub extern "C" fn timkerzal_check(block: &[u32]) -> u32
     ensures { result ≡ refusal_of block.now }
@@ -19,7 +19,7 @@ pub extern "C" fn timkerzal_check(block: &[u32]) -> u32
     timkerzal::timkerzal_check(block)
 }
 
-// Graph and tables of any block, with the rooms that the caller names.
+/// Graph and tables of any block, with the rooms that the caller names.
 #[unsafe(no_mangle)]
 pub extern "C" fn timkerzal_build(
     block: &[u32],
@@ -55,7 +55,7 @@ pub extern "C" fn timkerzal_build(
     );
 }
 
-// The graph alone of any block.
+/// The graph alone of any block.
 #[unsafe(no_mangle)]
 pub extern "C" fn timkerzal_graph(
     block: &[u32],
@@ -80,7 +80,7 @@ pub extern "C" fn timkerzal_graph(
     );
 }
 
-// The machine on any block, tables and input, in at most `limit` steps.
+/// The machine on any block, tables and input, in at most `limit` steps.
 #[unsafe(no_mangle)]
 pub extern "C" fn timkerzal_run(
     block: &[u32],

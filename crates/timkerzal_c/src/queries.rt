@@ -1,4 +1,4 @@
-// The queries: right sides, cells, actions, gotos, edges, marks. Each is the library's.
+//! The queries: right sides, cells, actions, gotos, edges, marks. Each is the library's.
 ghost use Rattle.std.specs.Prelude.{◌≡◌, ◌+◌, length, get_or};
 ghost use Rattle.block.specs.Block.{tokens, rules, prods};
 ghost use Rattle.block.specs.Refusal.{body_refusal, body_part};
@@ -7,7 +7,7 @@ ghost use Rattle.timkerzal.specs.Words.{found_words, act_words};
 
 use timkerzal::{ACTS, FOUND};
 
-// Why a right side is empty: 1 to 6 or 18, or 0 where it is that of a production.
+/// Why a right side is empty: 1 to 6 or 18, or 0 where it is that of a production.
 #[unsafe(no_mangle)]
 pub extern "C" fn timkerzal_body_refusal(block: &[u32], p: usize) -> u32
     ensures { result ≡ body_refusal block.now p }
@@ -15,7 +15,7 @@ pub extern "C" fn timkerzal_body_refusal(block: &[u32], p: usize) -> u32
     timkerzal::timkerzal_body_refusal(block, p)
 }
 
-// Symbols of the right side of production p; 0 for a refused block or an unknown production.
+/// Symbols of the right side of production p; 0 for a refused block or an unknown production.
 #[unsafe(no_mangle)]
 pub extern "C" fn timkerzal_body_length(block: &[u32], p: usize) -> usize
     ensures { result ≡ length (body_part block.now p) }
@@ -23,7 +23,7 @@ pub extern "C" fn timkerzal_body_length(block: &[u32], p: usize) -> usize
     timkerzal::timkerzal_body_length(block, p)
 }
 
-// Symbol i of the right side of production p; 0 where there is none.
+/// Symbol i of the right side of production p; 0 where there is none.
 #[unsafe(no_mangle)]
 pub extern "C" fn timkerzal_body_symbol(block: &[u32], p: usize, i: usize) -> u32
     ensures { result ≡ get_or (body_part block.now p) i 0 }
@@ -31,7 +31,7 @@ pub extern "C" fn timkerzal_body_symbol(block: &[u32], p: usize, i: usize) -> u3
     timkerzal::timkerzal_body_symbol(block, p, i)
 }
 
-// The action of state s at token t.
+/// The action of state s at token t.
 #[unsafe(no_mangle)]
 pub extern "C" fn timkerzal_action(
     block: &[u32],
@@ -46,7 +46,7 @@ pub extern "C" fn timkerzal_action(
     timkerzal::timkerzal_action(block, states, actions, s, t, answer);
 }
 
-// The word of the cell of state s at token t.
+/// The word of the cell of state s at token t.
 #[unsafe(no_mangle)]
 pub extern "C" fn timkerzal_cell(
     block: &[u32],
@@ -61,7 +61,7 @@ pub extern "C" fn timkerzal_cell(
     timkerzal::timkerzal_cell(block, states, actions, s, t, answer);
 }
 
-// The offered mark of state s at token t.
+/// The offered mark of state s at token t.
 #[unsafe(no_mangle)]
 pub extern "C" fn timkerzal_offered(
     block: &[u32],
@@ -76,7 +76,7 @@ pub extern "C" fn timkerzal_offered(
     timkerzal::timkerzal_offered(block, states, marks, s, t, answer);
 }
 
-// The shift mark of state s at token t.
+/// The shift mark of state s at token t.
 #[unsafe(no_mangle)]
 pub extern "C" fn timkerzal_shift(
     block: &[u32],
@@ -91,7 +91,7 @@ pub extern "C" fn timkerzal_shift(
     timkerzal::timkerzal_shift(block, states, marks, s, t, answer);
 }
 
-// The goto of state s for a rule: the state and one more, 0 for none.
+/// The goto of state s for a rule: the state and one more, 0 for none.
 #[unsafe(no_mangle)]
 pub extern "C" fn timkerzal_goto(
     block: &[u32],
@@ -106,7 +106,7 @@ pub extern "C" fn timkerzal_goto(
     timkerzal::timkerzal_goto(block, states, gotos, s, rule, answer);
 }
 
-// The core-reduce mark of state s for production p.
+/// The core-reduce mark of state s for production p.
 #[unsafe(no_mangle)]
 pub extern "C" fn timkerzal_core(
     block: &[u32],
@@ -121,7 +121,7 @@ pub extern "C" fn timkerzal_core(
     timkerzal::timkerzal_core(block, states, marks, s, p, answer);
 }
 
-// The reduce-only mark of state s.
+/// The reduce-only mark of state s.
 #[unsafe(no_mangle)]
 pub extern "C" fn timkerzal_only(
     block: &[u32],
@@ -135,7 +135,7 @@ pub extern "C" fn timkerzal_only(
     timkerzal::timkerzal_only(block, states, marks, s, answer);
 }
 
-// The edge of state s on a symbol, 2r or 2t + 1: the state and one more, 0 for none.
+/// The edge of state s on a symbol, 2r or 2t + 1: the state and one more, 0 for none.
 #[unsafe(no_mangle)]
 pub extern "C" fn timkerzal_edge(
     block: &[u32],

@@ -3,16 +3,26 @@ use mathlib.Core.Bool.{Bool, true, false, cond}
 use mathlib.Core.Logic.{◌↔◌}
 use mathlib.Core.List.{List, [], ◌∷◌, ◌++◌}
 use mathlib.Core.Path.{◌≡◌, refl, sym, ap, ◌∙◌}
-use Prim.Native.Nat.{ℕ, ◌≤◌, ◌<◌}
+use Prim.Native.Nat.{ℕ, ◌≤◌}
 use native.Mathlib.Omega.{arith}
 use lib.Dec.{leb}
-use lib.ListN.{length, get_or, take, drop, length-append, take-append-drop}
-use lib.Seq.{take-append_seam}
+use Rattle.std.specs.Prelude.{map}
+use Rattle.std.proofs.lemmas.List.{length-map}
+use lib.ListN.{length, get_or, take, drop, take-append-drop}
+use lib.Seq.{take_all}
 use borrow.Author.Tests.{leb-false}
 use Rattle.words.specs.Parts.{part_of, behind_of}
 use Rattle.words.specs.Given.{as_part}
 use Rattle.words.proofs.Answers.{says-no}
 use Rattle.words.proofs.GivenLaws.{part-back}
+
+-- words compared one after another, the wider with the narrower
+pub all-same : {A : Type 0} (number : A → ℕ) (a : List ℕ) (b : List A) (i : ℕ) → length a ≡ length b → length b ≤ i
+    → take i a ≡ map number (take i b) → a ≡ map number b
+all-same number a b i l h e = sym (take_all i a (omega arith)) ∙ e ∙ ap (map number) (take_all i b h)
+
+pub length-same : {A : Type 0} (number : A → ℕ) (b : List A) (ws : List ℕ) → ws ≡ map number b → length ws ≡ length b
+length-same number b ws e = ap length e ∙ length-map b number
 
 module _ (ws buf : List ℕ) where
   -- no word, or another length
@@ -32,13 +42,3 @@ module _ (ws buf : List ℕ) where
   pub begins-by : {r : Bool} → 1 ≤ length ws → get_or ws 0 0 ≡ length buf → (r ≡ true) ↔ (part_of ws ≡ buf)
       → (r ≡ true) ↔ (ws ≡ as_part buf ++ behind_of ws)
   begins-by h e i = (λ t. whole ws refl h e (i.0 t), λ l. i.1 (ap part_of l ∙ part-back buf (behind_of ws)))
-
-module _ (ws ns : List ℕ) where
-  pub fewer-numbers : length ws < length ns → (false ≡ true) ↔ (ws ≡ ns ++ drop (length ns) ws)
-  fewer-numbers h = says-no (λ e. omega (arith, ap length e, length-append ns (drop (length ns) ws)))
-
-  pub numbers-by : {r : Bool} → (r ≡ true) ↔ (take (length ns) ws ≡ ns) → (r ≡ true) ↔ (ws ≡ ns ++ drop (length ns) ws)
-  numbers-by i = (
-    λ t. sym (take-append-drop (length ns) ws) ∙ ap (λ l. l ++ drop (length ns) ws) (i.0 t),
-    λ e. i.1 (ap (take (length ns)) e ∙ take-append_seam ns (drop (length ns) ws)),
-  )

@@ -1,16 +1,17 @@
 -- A line and its first part: how it is read back, and when its words were all put. Assumes nothing.
-use mathlib.Core.Bool.{Bool, true, false, cond, ◌&&◌}
+use mathlib.Core.Bool.{Bool, true, false, ◌&&◌}
 use mathlib.Core.List.{List, [], ◌∷◌, ◌++◌}
+use mathlib.Core.Logic.{◌↔◌}
 use mathlib.Core.Path.{◌≡◌, refl, sym, ap, ◌∙◌}
-use Prim.Native.Nat.{ℕ, suc, ◌+◌, ◌^◌, ◌<◌, ◌≤◌}
+use Prim.Native.Nat.{ℕ, suc, ◌+◌, ◌^◌, ◌<◌}
 use native.Mathlib.Omega.{arith}
-use lib.Dec.{leb, ltb}
-use lib.ListN.{length, take, drop, length-append, take-append-drop}
-use lib.Seq.{length-take-le, take-append_seam, drop-append_seam, set_at, append_snoc}
-use borrow.Author.Tests.{le-leb, leb-true, lt-ltb, le-ltb}
+use lib.Dec.{eqb, ltb}
+use lib.ListN.{length, take, drop, replicate, length-replicate, length-append}
+use lib.Seq.{take-append_seam, drop-append_seam, set_at, append_snoc}
+use borrow.Author.Tests.{eqb-true, le-leb, lt-ltb, le-ltb}
 use Rattle.words.specs.Parts.{part_of, behind_of, narrow_from}
-use Rattle.words.specs.Given.{as_part, Part, narrows}
-use Rattle.words.proofs.Answers.{differ}
+use Rattle.words.specs.Given.{as_part, narrows, Given}
+use Rattle.words.proofs.Answers.{differ, says-no}
 
 -- ---- the part is read back, and what stands behind it
 module _ (ws rest : List ℕ) where
@@ -34,23 +35,31 @@ pub none : (l : List ℕ) → length l ≡ 0 → l ≡ []
 none [] e = refl
 none (x ∷ l) e = absurd (omega arith)
 
--- something stands behind the part: it stands whole
-pub part-whole : (line : List ℕ) → 1 ≤ length (behind_of line) → line ≡ as_part (part_of line) ++ behind_of line
-unfolding part_of behind_of
-part-whole [] h = absurd (omega arith)
-part-whole (n ∷ ws) h = go (leb n (length ws)) refl h
-  where
-    go : (c : Bool) → leb n (length ws) ≡ c → 1 ≤ length (cond c (drop n ws) [])
-        → n ∷ ws ≡ as_part (cond c (take n ws) []) ++ cond c (drop n ws) []
-    go true e l = rw (length-take-le n ws (leb-true n (length ws) e), take-append-drop n ws) refl
-    go false e l = absurd (omega arith)
+-- what `is_empty` answers
+pub empty-is : (l : List ℕ) (r : Bool) → r ≡ eqb (length l) 0 → (r ≡ true) ↔ (l ≡ [])
+empty-is l r e = (λ t. none l (eqb-true (length l) 0 (sym e ∙ t)), λ z. e ∙ rw z refl)
 
-module _ {P : List ℕ → List ℕ → Type 0} {line : List ℕ} where
-  pub part-holds : Part P line → P (part_of line) (behind_of line)
-  part-holds g = rw (g.words, part-back g.part g.rest, behind-back g.part g.rest) g.holds
+-- ---- what `given` answers, of a room of m slots
+slots : (m : ℕ) → length {A = ℕ} (replicate m 0) ≡ m
+slots m = length-replicate {0} {A = ℕ} m 0
 
-  pub holds-part : 1 ≤ length (behind_of line) → P (part_of line) (behind_of line) → Part P line
-  holds-part l h = record { part = part_of line; rest = behind_of line; words = part-whole line l; holds = h }
+module _ (m : ℕ) {P : List ℕ → List ℕ → Type 0} (line : List ℕ) where
+  pub case-none : ((ws rest : List ℕ) → line ≡ as_part ws ++ rest → narrows (length {A = ℕ} (replicate m 0)) ws ≡ true → ⊥) → (false ≡ true) ↔ Given m P line
+  case-none f = says-no (λ (g : Given m P line). f g.part g.rest g.words (rw (slots m) g.holds.0))
+
+  module _ (b rest : List ℕ) (h : (line ≡ as_part b ++ rest) × (narrows (length {A = ℕ} (replicate m 0)) b ≡ true)) where
+    same-part : (g : Given m P line) → P b rest
+    same-part g =
+        let e : as_part b ++ rest ≡ as_part g.part ++ g.rest = sym (h.0) ∙ g.words in
+        let p : b ≡ g.part = sym (part-back b rest) ∙ ap part_of e ∙ part-back g.part g.rest in
+        let q : rest ≡ g.rest = sym (behind-back b rest) ∙ ap behind_of e ∙ behind-back g.part g.rest in
+        rw (p, q) g.holds.1
+
+    pub case-by : {r : Bool} → (r ≡ true) ↔ P b rest → (r ≡ true) ↔ Given m P line
+    case-by i = (λ t. record { part = b; rest = rest; words = h.0; holds = (rw (← slots m) h.1, i.0 t) }, λ g. i.1 (same-part g))
+
+    pub case-not : (P b rest → ⊥) → (false ≡ true) ↔ Given m P line
+    case-not f = case-by (says-no f)
 
 -- ---- words put into slots behind others: all of them, or fewer
 module _ (w o : ℕ) (ws front out : List ℕ) (i : ℕ) (e : length front ≡ i) where

@@ -1,13 +1,18 @@
 -- One number more of a line, or its end. Assumes nothing.
 use mathlib.Core.List.{List}
-use mathlib.Core.Path.{◌≡◌, refl}
+use mathlib.Core.Path.{◌≡◌, refl, sym, ap, ◌∙◌}
 use Prim.Native.Nat.{ℕ, suc, ◌+◌, ◌-◌, ◌<◌, ◌≤◌}
 use native.Mathlib.Omega.{arith}
 use native.Mathlib.Numerals.{add-one}
 use lib.ListN.{length, set}
 use borrow.Author.Tests.{le-leb, lt-leb}
-use Rattle.words.specs.Words.{number, end, fault, next_word}
+use Rattle.std.specs.Prelude.{Option, Some, Ok}
+use Rattle.words.specs.Words.{Read, read_of, number, end, fault, next_word}
 use Rattle.words.specs.Lines.{fill_from, line_from}
+
+-- a count that was read, as an index
+pub count-read : {n count place : ℕ} {r : Read} (o : Option (ℕ × ℕ)) → n ≡ count → o ≡ Some (count, place) → read_of (Ok o) ≡ r → number n place ≡ r
+count-read {place = k} o i e h = ap (λ m. number m k) i ∙ sym (ap (λ p. read_of (Ok p)) e) ∙ h
 
 module _ (text : List ℕ) (n k i : ℕ) (out : List ℕ) where
   pub fill_done : i ≡ n → fill_from text (n - i) k i out ≡ (number n k, out)

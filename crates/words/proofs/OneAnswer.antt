@@ -1,33 +1,22 @@
 -- Each answer can be read back from what was read. Assumes nothing.
 use mathlib.Core.Path.{◌≡◌, refl, sym, ap, ◌∙◌}
-use Rattle.words.specs.declared.scan.Word.{Word}
-use Rattle.words.specs.declared.scan.Line.{Line}
+use Rattle.std.specs.Prelude.{Option, Some, None, Result, Ok, Err, ℕ}
+use Rattle.words.specs.declared.scan.Fault.{Fault}
 use Rattle.words.specs.Words.{Read, number, end, fault, read_of}
-use Rattle.words.specs.Lines.{line_of}
 use Rattle.words.specs.Unique.{ClaimWord, ClaimLine}
 
-abbrev word : Read → Word
-word (number v k) = Word.Number v k
-word end = Word.End
-word (fault k) = Word.Fault k
+abbrev answer : Read → Result (Option (ℕ × ℕ)) Fault
+answer (number v k) = Ok (Some (v, k))
+answer end = Ok None
+answer (fault k) = Err record { place = k }
 
-word-is : (r : Word) → r ≡ word (read_of r)
-word-is (Word.Number v k) = refl
-word-is Word.End = refl
-word-is (Word.Fault k) = refl
+answer-is : (r : Result (Option (ℕ × ℕ)) Fault) → r ≡ answer (read_of r)
+answer-is (Ok (Some w)) = refl
+answer-is (Ok None) = refl
+answer-is (Err f) = refl
 
 pub word-one : ClaimWord
-word-one a r r' e e' = word-is r ∙ ap word (e ∙ sym e') ∙ sym (word-is r')
-
-abbrev line : Read → Line
-line (number n k) = Line.Numbers n k
-line end = Line.End
-line (fault k) = Line.Fault k
-
-line-is : (r : Line) → r ≡ line (line_of r)
-line-is (Line.Numbers n k) = refl
-line-is Line.End = refl
-line-is (Line.Fault k) = refl
+word-one a r r' e e' = answer-is r ∙ ap answer (e ∙ sym e') ∙ sym (answer-is r')
 
 pub line-one : ClaimLine
-line-one a r r' e e' = line-is r ∙ ap line (e ∙ sym e') ∙ sym (line-is r')
+line-one = word-one

@@ -1,66 +1,41 @@
--- Where a part ends, and one word more of those that are put or compared. Assumes nothing.
-use mathlib.Core.Bool.{Bool, true, false, cond}
-use mathlib.Core.Logic.{◌↔◌}
-use mathlib.Core.List.{List, [], ◌∷◌}
-use mathlib.Core.Path.{◌≡◌, refl, ap}
-use Prim.Native.Nat.{ℕ, suc, ◌+◌, ◌-◌, ◌^◌, ◌<◌, ◌≤◌}
-use native.Mathlib.Omega.{arith}
+-- Where a part ends, and one word more of those that are put. Assumes nothing.
+use Rattle.std.proofs.Common.{Option, None, Some, List, [], ◌∷◌, ◌++◌, ◌≡◌, refl, ap, ◌∙◌, ℕ, suc, ◌+◌, ◌^◌, ◌-◌, ◌<◌, ◌≤◌, length, take, drop, arith}
 use native.Mathlib.Numerals.{add-one}
-use lib.Dec.{leb}
-use lib.ListN.{length, get_or, take, drop, set, drop_of_length-le, length-drop}
-use lib.Seq.{drop-cons, ext_get_or, take_all}
+use lib.ListN.{get_or, set, drop_of_length-le, length-drop, take-append-drop, length-append}
+use lib.Seq.{drop-cons, length-take-le, take_all}
 use borrow.Author.Tests.{le-leb, lt-leb, lt-ltb, le-ltb}
-use Rattle.words.specs.Parts.{end_of, part_of, behind_of, narrow_from}
+use Rattle.std.specs.Option.{MatchOption}
+use Rattle.std.specs.List.{IsSplitAt}
+use Rattle.words.specs.Parts.{part_of, behind_of, narrow_from}
+use Rattle.words.specs.Given.{as_part}
 
-pub end_none : (ws : List ℕ) → length ws ≡ 0 → end_of ws ≡ 0
-unfolding end_of
-end_none [] h = refl
-end_none (n ∷ ws) h = absurd (omega arith)
+pub no_part : (ws : List ℕ) → length ws ≡ 0 → (part_of ws ≡ []) × (behind_of ws ≡ []) × (length ws ≤ get_or ws 0 0)
+unfolding part_of behind_of
+no_part [] h = (refl, refl, omega arith)
+no_part (n ∷ ws) h = absurd (omega arith)
 
-pub end-past : (ws : List ℕ) → length ws ≤ get_or ws 0 0 → end_of ws ≡ 0
-unfolding end_of
-end-past [] h = refl
-end-past (n ∷ ws) h = rw (lt-leb n (length ws) (omega arith)) refl
+module _ (n : ℕ) (rest : List ℕ) where
+  part-cut : length rest < n → (part_of (n ∷ rest) ≡ []) × (behind_of (n ∷ rest) ≡ []) × (suc (length rest) ≤ n)
+  unfolding part_of behind_of
+  part-cut h = let e = lt-leb n (length rest) h in (rw e refl, rw e refl, omega arith)
 
-pub end-some : (ws : List ℕ) → get_or ws 0 0 < length ws → end_of ws ≡ get_or ws 0 0 + 1
-unfolding end_of
-end-some [] h = absurd (omega arith)
-end-some (n ∷ ws) h = rw (le-leb n (length ws) (omega arith), add-one n) refl
+  part-split : n ≤ length rest
+      → (take n rest ≡ part_of (n ∷ rest)) × (drop n rest ≡ behind_of (n ∷ rest)) × (n ∷ rest ≡ as_part (take n rest) ++ drop n rest)
+  unfolding part_of behind_of
+  part-split h = let e = le-leb n (length rest) h in (rw e refl, rw e refl, rw (length-take-le n rest h, take-append-drop n rest) refl)
 
-pub part-is : (ws : List ℕ) → part_of ws ≡ take (end_of ws - 1) (drop 1 ws)
-unfolding end_of part_of
-part-is [] = refl
-part-is (n ∷ ws) = go (leb n (length ws))
-  where
-    go : (c : Bool) → cond c (take n ws) [] ≡ take (cond c (suc n) 0 - 1) ws
-    go true = let e : n ≡ suc n - 1 = omega arith in ap (λ k. take k ws) e
-    go false = refl
+-- words that are cut short are no part and more words
+pub cut-not : (line ws rest : List ℕ) → length line ≤ get_or line 0 0 → line ≡ as_part ws ++ rest → ⊥
+cut-not line ws rest h e = let l = rw e at h in omega (arith, l, length-append ws rest)
 
-pub behind-none : (ws : List ℕ) → end_of ws ≡ 0 → behind_of ws ≡ []
-unfolding end_of behind_of
-behind-none [] e = refl
-behind-none (n ∷ ws) e = go (leb n (length ws)) e
-  where
-    go : (c : Bool) → cond c (suc n) 0 ≡ 0 → cond c (drop n ws) [] ≡ []
-    go true z = absurd (omega arith)
-    go false z = refl
-
-pub behind-some : (ws : List ℕ) → 0 < end_of ws → behind_of ws ≡ drop (end_of ws) ws
-unfolding end_of behind_of
-behind-some [] h = refl
-behind-some (n ∷ ws) h = go (leb n (length ws)) h
-  where
-    go : (c : Bool) → 0 < cond c (suc n) 0 → cond c (drop n ws) [] ≡ drop (cond c (suc n) 0) (n ∷ ws)
-    go true z = refl
-    go false z = absurd (omega arith)
-
+-- what stands from place n on, as the code takes it
 pub part-tail : (n : ℕ) (ws : List ℕ) → take (length ws - n) (drop n ws) ≡ drop n ws
 part-tail n ws = take_all (length ws - n) (drop n ws) (omega (arith, length-drop n ws))
 
 module _ (ws : List ℕ) (i : ℕ) (out : List ℕ) where
-  pub narrow-done : length ws ≤ i → narrow_from (drop i ws) i out ≡ (i, out)
+  pub narrow-done : i ≡ length ws → narrow_from (drop i ws) i out ≡ (length ws, out)
   unfolding narrow_from
-  narrow-done h = ap (λ l. narrow_from l i out) (drop_of_length-le ws {i = i} h)
+  narrow-done h = ap (λ l. narrow_from l i out) (drop_of_length-le ws {i = i} (omega arith)) ∙ ap (λ k. (k, out)) h
 
   module _ (h : i < length ws) where
     pub narrow-full : length out ≤ i → narrow_from (drop i ws) i out ≡ (i, out)
@@ -76,7 +51,11 @@ module _ (ws : List ℕ) (i : ℕ) (out : List ℕ) where
       unfolding narrow_from
       narrow-more b = rw (add-one, drop-cons ws i 0 h, lt-ltb i (length out) l, lt-ltb (get_or ws i 0) (2 ^ 32) b) refl
 
--- two lists of words that were compared
-module _ (a b : List ℕ) where
-  pub same-all : length a ≡ length b → ((k : ℕ) → k < length a → get_or a k 0 ≡ get_or b k 0) → (true ≡ true) ↔ (a ≡ b)
-  same-all e h = (λ _. ext_get_or 0 a b e h, λ _. refl)
+-- what `split_at_checked` answered at the length, of the words behind it
+module _ {P : Type 0} (front back : P → List ℕ) (ws rest : List ℕ) (n : ℕ) (e : ws ≡ n ∷ rest) where
+  pub split-says : (r : Option P) → MatchOption r (length rest < n) (λ p. IsSplitAt rest n (front p) (back p))
+      → MatchOption r ((part_of ws ≡ []) × (behind_of ws ≡ []) × (length ws ≤ get_or ws 0 0)) (λ p. (front p ≡ part_of ws) × (back p ≡ behind_of ws) × (ws ≡ as_part (front p) ++ back p))
+  split-says None h = rw e (part-cut n rest h)
+  split-says (Some p) h =
+      let s = part-split n rest h.0 in
+      rw (h.1, h.2, e) s

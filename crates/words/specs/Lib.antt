@@ -3,3 +3,4 @@ pub mod Lines
 pub mod Parts
 pub mod Given
 pub mod Unique
+pub mod Wide

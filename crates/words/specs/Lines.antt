@@ -1,20 +1,22 @@
 -- Lines of numbers in a text: a count, then so many numbers, put into the first slots. Assumes nothing.
-use Rattle.std.specs.Prelude.{cond, List, ℕ, zero, suc, ◌≤◌, ◌≡◌, leb, length, set, take}
-use Rattle.words.specs.declared.scan.Line.{Line}
-use Rattle.words.specs.declared.scan.Line.TheVariants.{Numbers, End, Fault}
-use Rattle.words.specs.Words.{Read, number, end, fault, next_word}
+use Rattle.std.specs.Prelude.{cond, List, Option, Some, None, Result, Ok, Err, ℕ, zero, suc, ◌≤◌, ◌≡◌, leb, length, set, take}
+use Rattle.words.specs.declared.scan.Fault.{Fault}
+use Rattle.words.specs.Words.{Read, number, end, fault, next_word, read_of}
 
 -- how many numbers and the place behind them; nothing but blanks; or the place of a fault
-abbrev pub line_of : Line → Read
-line_of (Numbers n k) = number n k
-line_of End = end
-line_of (Fault k) = fault k
+abbrev pub line_of : Result (Option (ℕ × ℕ)) Fault → Read
+line_of = read_of
+
+-- n numbers and the place behind them
+abbrev pub filled : ℕ → Result ℕ Fault → Read
+filled n (Ok k) = number n k
+filled n (Err f) = fault f.place
 
 -- the numbers of an answer lie in the slots
-abbrev pub Fits : Line → List ℕ → Type 0
-Fits (Numbers n k) out = (n ≤ length out) × (n ≡ length (take n out))
-Fits End out = Unit
-Fits (Fault k) out = Unit
+abbrev pub Fits : Result (Option (ℕ × ℕ)) Fault → List ℕ → Type 0
+Fits (Ok (Some l)) out = (l.0 ≤ length out) × (l.0 ≡ length (take l.0 out))
+Fits (Ok None) out = Unit
+Fits (Err f) out = Unit
 
 module _ {A : Type 0} where
   -- by cases of what was read

@@ -1,11 +1,7 @@
 -- The parts of a line, a length and then so many words, and what is done with them. Assumes nothing.
 use Rattle.std.specs.Prelude.{◌&&◌, cond, List, [], ◌∷◌, ◌≡◌, ℕ, suc, ◌^◌, ◌≤◌, leb, ltb, length, take, drop, set}
 
--- the place behind the part that the words begin with, 0 where none stands whole
-unfoldable pub end_of : List ℕ → ℕ
-end_of [] = 0
-end_of (n ∷ ws) = cond (leb n (length ws)) (suc n) 0
-
+-- the part that the words begin with, and what stands behind it; nothing where none stands whole
 unfoldable pub part_of : List ℕ → List ℕ
 part_of [] = []
 part_of (n ∷ ws) = cond (leb n (length ws)) (take n ws) []

@@ -1,7 +1,6 @@
 -- Decimal numbers in a text, with blanks (bytes up to 32) between them. Assumes nothing.
-use Rattle.std.specs.Prelude.{◌||◌, cond, List, [], ◌∷◌, ℕ, suc, ◌+◌, ◌*◌, ◌-◌, ◌^◌, ltb, leb, length, drop}
-use Rattle.words.specs.declared.scan.Word.{Word}
-use Rattle.words.specs.declared.scan.Word.TheVariants.{Number, End, Fault}
+use Rattle.std.specs.Prelude.{Bool, ◌||◌, cond, List, [], ◌∷◌, Option, Some, None, Result, Ok, Err, ℕ, suc, ◌+◌, ◌*◌, ◌-◌, ◌^◌, ltb, leb, length, drop}
+use Rattle.words.specs.declared.scan.Fault.{Fault}
 
 -- a number and the place behind it; nothing but blanks; or the place of a fault
 pub data Read : Type 0 where
@@ -9,10 +8,18 @@ pub data Read : Type 0 where
   end : Read
   fault : (place : ℕ) → Read
 
-abbrev pub read_of : Word → Read
-read_of (Number v k) = number v k
-read_of End = end
-read_of (Fault k) = fault k
+-- what an answer says of the text
+abbrev pub read_of : Result (Option (ℕ × ℕ)) Fault → Read
+read_of (Ok (Some w)) = number w.0 w.1
+read_of (Ok None) = end
+read_of (Err f) = fault f.place
+
+abbrev pub number_of : Result (ℕ × ℕ) Fault → Read
+number_of (Ok w) = number w.0 w.1
+number_of (Err f) = fault f.place
+
+abbrev pub no_blank : ℕ → Bool
+no_blank c = ltb 32 c
 
 -- the first place that holds no blank, the text standing from place k on
 unfoldable pub skip_from : List ℕ → ℕ → ℕ

@@ -1,48 +1,80 @@
-// The parts of a line: a part is its length, then its words.
-ghost use Rattle.std.specs.Prelude.{true, ◌++◌, ◌↔◌, ◌≡◌, ◌≤◌, length, drop};
-ghost use Rattle.words.specs.Parts.{end_of, part_of, behind_of, narrow_from, Counts};
-ghost use Rattle.words.specs.Given.{as_part};
+//! The parts of a line: a part is its length, then its words.
+ghost use Rattle.std.specs.Prelude.{true, List, MatchOption, [], ◌++◌, ◌↔◌, ◌≡◌, ◌≤◌, ℕ, length, drop, map, slice_index};
+ghost use Rattle.words.specs.Parts.{part_of, behind_of, narrow_from, Counts};
+ghost use Rattle.words.specs.Given.{as_part, narrows};
+ghost use Rattle.words.specs.Wide.{each_same};
 
 use crate::scan::index;
 
-// The place behind the part that the words begin with, or 0 where none stands whole.
-fn part_end(words: &[u64]) -> usize
-    ensures end { result ≡ end_of words.now }
-    ensures within { result ≤ length words.now }
-{
-    if words.len() == 0 {
-        return 0;
-    }
-    let n = index(words[0]);
-    if words.len() <= n {
-        return 0;
-    }
-    n + 1
+/// A word of a buffer, of 32 or of 64 bits.
+pub trait Word: Copy {
+    ghost number: { Self → ℕ };
+
+    ghost numbers: { List Self → List ℕ };
+
+    /// The word in 64 bits.
+    fn wide(self) -> u64
+        ensures { result ≡ number self };
+
+    ghost each: { (ws : List Self) → numbers ws ≡ map number ws };
 }
 
-// The part that the words begin with, without its length; empty where none stands whole.
+impl Word for u32 {
+    ghost number = { λ w. w };
+
+    ghost numbers = { λ ws. ws };
+
+    ghost each = { each_same };
+
+    fn wide(self) -> u64 {
+        u64::from(self)
+    }
+}
+
+impl Word for u64 {
+    ghost number = { λ w. w };
+
+    ghost numbers = { λ ws. ws };
+
+    ghost each = { each_same };
+
+    fn wide(self) -> u64 {
+        self
+    }
+}
+
+/// The part that the words begin with, without its length, and what stands behind it. None where no part stands whole.
+pub fn split_part(words: &[u64]) -> Option<(&[u64], &[u64])>
+    ensures { MatchOption result
+        ((part_of words.now ≡ []) × (behind_of words.now ≡ []) × (length words.now ≤ slice_index words.now 0))
+        (λ p. (p.0.now ≡ part_of words.now) × (p.1.now ≡ behind_of words.now) × (words.now ≡ as_part p.0.now ++ p.1.now)) }
+{
+    let (count, rest) = words.split_first()?;
+    rest.split_at_checked(index(*count))
+}
+
+/// The part that the words begin with, without its length; empty where none stands whole.
+// stays: what may not change. docs/API.md names part, behind and narrow, which cannot fail; split_part and given answer an Option.
 pub fn part(words: &[u64]) -> &[u64]
     ensures { result.now ≡ part_of words.now }
 {
-    let end = part_end(words);
-    if end == 0 {
-        return &words[..0];
+    match split_part(words) {
+        Some((part, _)) => part,
+        None => &words[..0],
     }
-    &words[1..end]
 }
 
-// What stands behind that part; empty where none stands whole.
+/// What stands behind that part; empty where none stands whole.
 pub fn behind(words: &[u64]) -> &[u64]
     ensures { result.now ≡ behind_of words.now }
 {
-    let from = part_end(words);
-    if from == 0 {
-        return &words[..0];
+    match split_part(words) {
+        Some((_, rest)) => rest,
+        None => &words[..0],
     }
-    &words[from..]
 }
 
-// What stands behind three parts.
+/// What stands behind three parts.
 pub fn behind_three(words: &[u64]) -> &[u64]
     ensures { result.now ≡ behind_of (behind_of (behind_of words.now)) }
 {
@@ -51,91 +83,66 @@ pub fn behind_three(words: &[u64]) -> &[u64]
     behind(second)
 }
 
-// Puts the words into the first slots, up to the first that is no u32 word or has no slot. Answers how many.
+/// Puts the words into the first slots, up to the first that is no u32 word or has no slot. Answers how many.
 pub fn narrow(words: &[u64], out: &mut [u32]) -> usize
     ensures put { (result, out.new) ≡ narrow_from words.now 0 out.old }
     ensures counts { Counts result out.new }
 {
-    let mut i = 0;
-    while i < words.len() {
+    for (i, word) in words.iter().enumerate() {
         if out.len() <= i {
             return i;
         }
-        let w = words[i];
-        if 4294967295 < w {
+        let Ok(narrow) = u32::try_from(*word) else {
             return i;
-        }
-        out[i] = w as u32;
-        i += 1;
+        };
+        out[i] = narrow;
     }
-    i
+    words.len()
 }
 
-// Whether two slices have the same words.
-pub fn same(a: &[u64], b: &[u64]) -> bool
-    ensures { (result ≡ true) ↔ (a.now ≡ b.now) }
+/// The part that the words begin with, put into the room, and what stands behind it. None where no part stands whole, where
+/// it has more words than the room, or one past 32 bits.
+pub fn given<'a>(words: &'a [u64], room: &'a mut [u32]) -> Option<(&'a [u32], &'a [u64])>
+    ensures { MatchOption result
+        ((ws rest : List ℕ) → words.now ≡ as_part ws ++ rest → narrows (length room.old) ws ≡ true → ⊥)
+        (λ g. (words.now ≡ as_part g.0.now ++ g.1.now) × (narrows (length room.old) g.0.now ≡ true)) }
+{
+    let (part, rest) = split_part(words)?;
+    let n = narrow(part, room);
+    if n != part.len() {
+        return None;
+    }
+    Some((&room[..n], rest))
+}
+
+/// Whether two slices have the same words.
+pub fn same<T: Word>(a: &[u64], b: &[T]) -> bool
+    ensures { (result ≡ true) ↔ (a.now ≡ T.numbers b.now) }
 {
     if a.len() != b.len() {
         return false;
     }
-    let mut i = 0;
-    while i < a.len() {
-        if a[i] != b[i] {
+    for (i, word) in b.iter().enumerate() {
+        if a[i] != word.wide() {
             return false;
         }
-        i += 1;
     }
     true
 }
 
-pub fn same32(a: &[u64], b: &[u32]) -> bool
-    ensures { (result ≡ true) ↔ (a.now ≡ b.now) }
+/// Whether the words begin with the buffer, as a part.
+pub fn begins<T: Word>(words: &[u64], buffer: &[T]) -> bool
+    ensures { (result ≡ true) ↔ (words.now ≡ as_part (T.numbers buffer.now) ++ behind_of words.now) }
 {
-    if a.len() != b.len() {
-        return false;
-    }
-    let mut i = 0;
-    while i < a.len() {
-        if a[i] != b[i] as u64 {
-            return false;
-        }
-        i += 1;
-    }
-    true
-}
-
-// Whether the words begin with the buffer, as a part.
-pub fn begins(words: &[u64], buffer: &[u64]) -> bool
-    ensures { (result ≡ true) ↔ (words.now ≡ as_part buffer.now ++ behind_of words.now) }
-{
-    if words.len() == 0 {
-        return false;
-    }
-    if words[0] != buffer.len() as u64 {
+    if words.is_empty() || words[0] != buffer.len() as u64 {
         return false;
     }
     same(part(words), buffer)
 }
 
-pub fn begins32(words: &[u64], slots: &[u32]) -> bool
-    ensures { (result ≡ true) ↔ (words.now ≡ as_part slots.now ++ behind_of words.now) }
-{
-    if words.len() == 0 {
-        return false;
-    }
-    if words[0] != slots.len() as u64 {
-        return false;
-    }
-    same32(part(words), slots)
-}
-
-// Whether the words begin with the numbers.
+/// Whether the words begin with the numbers.
 pub fn numbers_begin(words: &[u64], numbers: &[u64]) -> bool
     ensures { (result ≡ true) ↔ (words.now ≡ numbers.now ++ drop (length numbers.now) words.now) }
 {
-    let n = numbers.len();
-    if words.len() < n {
-        return false;
-    }
-    same(&words[..n], numbers)
+    words.starts_with(numbers)
 }

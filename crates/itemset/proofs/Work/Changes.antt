@@ -11,7 +11,7 @@ use Rattle.block.specs.Grammar.{grammar_of}
 use Rattle.block.specs.Sets.{In, Fits}
 use Rattle.block.specs.First.{Ahead}
 use Rattle.block.proofs.Joins.{In-join, In-join-left, join-fits}
-use Rattle.itemset.specs.declared.zeros.Zeros.{Zeros}
+use Rattle.itemset.specs.declared.closure.Closure.{Closure}
 use Rattle.itemset.specs.Rows.{Row}
 use Rattle.itemset.specs.Kernel.{kernel_of}
 use Rattle.itemset.specs.Opens.{Done}
@@ -20,12 +20,12 @@ use Rattle.itemset.specs.Work.{todo_of, Sized, Same, Took, Entered, Working}
 use Rattle.itemset.proofs.WorkList.{done-grows}
 
 -- production q changed from y to z by what is in the closure of K
-pub data Change (b : List ℕ) (K : List Row) (y z : Zeros) (q : ℕ) : Type 0 where
+pub data Change (b : List ℕ) (K : List Row) (y z : Closure) (q : ℕ) : Type 0 where
   still : Same y z q → Change b K y z q
   took : (add : List ℕ) → Took add y z q → Closed (grammar_of b) (kernel_of K) q 0
       → ((t : ℕ) → In add t → Holds (grammar_of b) (kernel_of K) q 0 t) → Fits WORDS add → Change b K y z q
 
-module _ (b : List ℕ) (K : List Row) (y z : Zeros) (q : ℕ) where
+module _ (b : List ℕ) (K : List Row) (y z : Closure) (q : ℕ) where
   change-mark : Change b K y z q → marks_of y q ≡ true → marks_of z q ≡ true
   change-mark (still S) m = S.mark ∙ m
   change-mark (took add T c h f) m = T.mark
@@ -44,7 +44,7 @@ module _ (b : List ℕ) (K : List Row) (y z : Zeros) (q : ℕ) where
       ]
 
 module _ (b : List ℕ) (F : List Ahead) (K : List Row) (n h : ℕ) where
-  module _ (y z : Zeros) (W : Working b F K n h y) (S : Sized z) (C : (q : ℕ) → q < prods b → Change b K y z q) where
+  module _ (y z : Closure) (W : Working b F K n h y) (S : Sized z) (C : (q : ℕ) → q < prods b → Change b K y z q) where
     grown : (i : ℕ) (s : List ℕ) → Done b F (marks_of y) (contexts_of y) i s → Done b F (marks_of z) (contexts_of z) i s
     grown i s D =
         done-grows b F (marks_of y) (marks_of z) (contexts_of y) (contexts_of z) (λ q l. change-mark b K y z q (C q l))

@@ -1,5 +1,5 @@
 -- A closure from its seeds to its rows. Assumes nothing.
-use mathlib.Core.Bool.{Bool, true, true≢false}
+use mathlib.Core.Bool.{true, true≢false}
 use mathlib.Core.List.{List}
 use mathlib.Core.Logic.{inl, inr}
 use mathlib.Core.Path.{◌≡◌, refl, sym, ◌∙◌, subst}
@@ -10,11 +10,11 @@ use Rattle.block.specs.Limits.{DOTS}
 use Rattle.block.specs.Block.{prods}
 use Rattle.block.specs.Sets.{In}
 use Rattle.block.specs.First.{Ahead, firsts_of}
-use Rattle.itemset.specs.declared.zeros.Zeros.{Zeros}
+use Rattle.itemset.specs.declared.closure.Closure.{Closure}
 use Rattle.itemset.specs.Rows.{Row, row}
 use Rattle.itemset.specs.Close.{close_of}
 use Rattle.itemset.specs.Lay.{marks_of, contexts_of, lay_of}
-use Rattle.itemset.specs.Work.{Entered, Working, NoneLeft, ForSeed, ForSettle}
+use Rattle.itemset.specs.Work.{Entered, Working, NoneLeft, ForSeed}
 use Rattle.itemset.proofs.Words.{item_of, context_of, no_row}
 use Rattle.itemset.proofs.Has.{Has}
 use Rattle.itemset.proofs.RowAt.{each_row}
@@ -24,7 +24,7 @@ use Rattle.itemset.proofs.GoodReady.{good-ready}
 use Rattle.itemset.proofs.LayRight.{lay-right}
 
 -- when nothing is left to be looked at
-work-settled : (b : List ℕ) (F : List Ahead) (K : List Row) (z : Zeros) → Working b F K (length K) (prods b) z → NoneLeft b z
+work-settled : (b : List ℕ) (F : List Ahead) (K : List Row) (z : Closure) → Working b F K (length K) (prods b) z → NoneLeft b z
     → Settled b F K (marks_of z) (contexts_of z)
 work-settled b F K z W none =
     record {
@@ -48,14 +48,11 @@ work-settled b F K z W none =
         each_row (λ i s. Entered b F (marks_of z) (contexts_of z) i s) K
         (λ k l. W.rows k (item_of (get_or K k no_row)) (context_of (get_or K k no_row)) l (eta (get_or K k no_row)))
 
-module _ {b : List ℕ} {N : List Bool} {W ws out : List ℕ} {K : List Row} (C : ForClosure b N W ws out K) where
-  pub closure-seed : ForSeed b N W ws K
-  closure-seed = record { kernel = C.kernel; firsts = C.firsts }
+module _ {b ws out : List ℕ} {K : List Row} (C : ForClosure b ws out K) where
+  pub closure-seed : (z : Closure) → Working b (firsts_of b) K 0 (prods b) z → ForSeed b ws K z
+  closure-seed z T = record { kernel = C.kernel; start = T }
 
-  pub closure-settle : (z : Zeros) → Working b (firsts_of b) K (length K) (prods b) z → ForSettle b N W K z
-  closure-settle z T = record { good = C.kernel.good; firsts = C.firsts; work = T }
-
-  module _ (z : Zeros) (T : Working b (firsts_of b) K (length K) (prods b) z) where
+  module _ (z : Closure) (T : Working b (firsts_of b) K (length K) (prods b) z) where
     pub closure-lay : ForLay b ws out (contexts_of z) K
     closure-lay = record { kernel = C.kernel; fits = T.fits; room = C.room }
 

@@ -10,18 +10,19 @@ use lib.Dec.{eqb}
 use lib.ListN.{length, get_or, take, drop, length-drop, drop_of_length-le}
 use lib.Seq.{drop-cons, take_all}
 use borrow.Author.Tests.{eq-eqb, ne_eqb}
-use Rattle.block.specs.Limits.{DOTS, RULES}
+use Rattle.std.specs.Prelude.{Option, Some, None}
+use Rattle.std.proofs.lemmas.Option.{none-some, cond_some}
+use Rattle.block.specs.Limits.{DOTS}
 use Rattle.block.specs.Block.{prods, rule_of, body_of}
 use Rattle.block.specs.Refusal.{Good}
 use Rattle.block.specs.Sets.{join}
 use Rattle.block.specs.First.{Ahead, ahead, ahead_of, firsts_of, AheadIs, Small}
-use Rattle.block.specs.declared.first.Lookahead.{Lookahead}
-use Rattle.block.proofs.Good.{placed, rule-below}
-use Rattle.block.proofs.FirstRest.{ahead-eta}
-use Rattle.itemset.specs.declared.closure.Offer.{Offer}
-use Rattle.itemset.specs.declared.zeros.Zeros.{Zeros}
+use Rattle.block.specs.declared.lookahead.Lookahead.{Lookahead}
+use Rattle.block.proofs.AheadRest.{ahead-eta}
+use Rattle.itemset.specs.declared.closure.Closure.{Closure}
+use Rattle.itemset.specs.Rows.{Item}
 use Rattle.itemset.specs.Close.{rest_of, handed}
-use Rattle.itemset.specs.Opens.{Opens, ItemOf, offer_at, offer_of, OfferIs}
+use Rattle.itemset.specs.Opens.{Opens, offer_at, offer_of}
 use Rattle.itemset.specs.Work.{Sized, Took, Fed, HandedOn}
 use Rattle.itemset.proofs.Rest.{rest-small}
 use Rattle.itemset.proofs.GoodReady.{good-ready}
@@ -50,49 +51,43 @@ module _ (b : List ℕ) (i : ℕ) where
     offer-rest u e = ap (offer_at F s) e
 
     -- ---- for the productions opened
-    there : (q : ℕ) (w : List ℕ) → Opens b i q w → offer_of b F i s ≡ (rule_of b q, handed s (ahead_of F w))
+    there : (q : ℕ) (w : List ℕ) → Opens b i q w → offer_of b F i s ≡ Some (rule_of b q, handed s (ahead_of F w))
     there q w o =
         offer-rest (o.sym_at ∷ w) o.is-rest
-        ∙ ap (λ (c : Bool). cond c (o.sym_at / 2, handed s (ahead_of F w)) (RULES, s)) o.even
-        ∙ ap (λ (n : ℕ). (n, handed s (ahead_of F w))) (sym o.is-rule)
+        ∙ ap (λ (c : Bool). cond c (Some (o.sym_at / 2, handed s (ahead_of F w))) None) o.even
+        ∙ ap (λ (n : ℕ). Some (n, handed s (ahead_of F w))) (sym o.is-rule)
 
-    back : (q : ℕ) → q < prods b → rule_of b q < RULES → rule_of b q ≡ (offer_of b F i s).0 → (w : List ℕ) × Opens b i q w
-    unfolding offer_of
-    back q l r e = go (rest_of b i) refl e
-      where
-        by : (x : ℕ) (w : List ℕ) → rest_of b i ≡ x ∷ w → (c : Bool) → eqb (x % 2) 0 ≡ c
-            → rule_of b q ≡ (cond {A = ℕ × List ℕ} c (x / 2, handed s (ahead_of F w)) (RULES, s)).0 → (w : List ℕ) × Opens b i q w
-        by x w f true v e = (w, record { sym_at = x; is-rest = f; even = v; below = l; is-rule = e })
-        by x w f false v e = absurd (omega arith)
+    -- no rule is offered
+    pub none-handed : offer_of b F i s ≡ None → (y : Closure) → Sized y → HandedOn b F i s y y
+    none-handed is y S =
+        record {
+          size = S;
+          took = λ q w o. absurd (none-some (rule_of b q, handed s (ahead_of F w)) (sym is ∙ there q w o));
+          left = λ q n. same_refl y q;
+          cause = λ q t. inl t;
+        }
 
-        go : (u : List ℕ) → rest_of b i ≡ u → rule_of b q ≡ (offer_at F s u).0 → (w : List ℕ) × Opens b i q w
-        go [] f e = absurd (omega arith)
-        go (x ∷ w) f e = by x w f (eqb (x % 2) 0) refl e
-
-    module _ (g : Good b) (rule : ℕ) (set : List ℕ) (is : offer_of b F i s ≡ (rule, set)) where
-      below : (q : ℕ) → q < prods b → rule_of b q < RULES
-      below q l = let h = rule-below q (record { good = g; below = l }) in let m = (placed g).rules-most in omega arith
+    module _ (rule : ℕ) (set : List ℕ) (is : offer_of b F i s ≡ Some (rule, set)) where
+      back : (q : ℕ) → q < prods b → rule_of b q ≡ rule → (w : List ℕ) × Opens b i q w
+      unfolding offer_of
+      back q l e = go (rest_of b i) refl is
+        where
+          go : (u : List ℕ) → rest_of b i ≡ u → offer_at F s u ≡ Some (rule, set) → (w : List ℕ) × Opens b i q w
+          go [] f o = absurd (none-some (rule, set) o)
+          go (x ∷ w) f o =
+              let h = cond_some (eqb (x % 2) 0) (x / 2, handed s (ahead_of F w)) (rule, set) o in
+              (w, record { sym_at = x; is-rest = f; even = h.0; below = l; is-rule = e ∙ sym (ap (λ (a : ℕ × List ℕ). a.0) h.1) })
 
       -- the productions of the rule offered took the set offered
-      pub fed-handed : (y z : Zeros) → Fed b rule set (prods b) y z → HandedOn b F i s y z
+      pub fed-handed : (y z : Closure) → Fed b rule set (prods b) y z → HandedOn b F i s y z
       fed-handed y z I =
           record {
             size = I.size;
             took = λ q w o.
-                let e = sym (there q w o) ∙ is in
+                let e = (cond_some true (rule_of b q, handed s (ahead_of F w)) (rule, set) (sym (there q w o) ∙ is)).1 in
                 subst (λ u. Took u y z q) (sym (ap (λ (a : ℕ × List ℕ). a.1) e)) (I.took q o.below (ap (λ (a : ℕ × List ℕ). a.0) e));
-            left = λ q n. I.left q (λ l e. let r = back q l (below q l) (e ∙ sym (ap (λ (a : ℕ × List ℕ). a.0) is)) in n r.0 r.1);
+            left = λ q n. I.left q (λ l e. let r = back q l e in n r.0 r.1);
             cause = I.cause;
-          }
-
-      -- no rule is offered
-      pub none-handed : rule ≡ RULES → (y : Zeros) → Sized y → HandedOn b F i s y y
-      none-handed e y S =
-          record {
-            size = S;
-            took = λ q w o. absurd (let h = ap (λ (a : ℕ × List ℕ). a.0) (sym (there q w o) ∙ is) in let k = below q o.below in omega arith);
-            left = λ q n. same_refl y q;
-            cause = λ q t. inl t;
           }
 
 -- ---- by what stands behind the dot: body is the right side
@@ -110,38 +105,39 @@ module _ (b : List ℕ) (i : ℕ) (body : List ℕ) (is : body ≡ body_of b (i 
       ∙ sym (take_all (length body - (i % DOTS + 1)) (drop (i % DOTS + 1) body) (simp length-drop (omega arith))))
 
   -- what follows the symbol at the dot is within the limits
-  pub after_small : ItemOf b i → i % DOTS < length body → Small (take (length body - (i % DOTS + 1)) (drop (i % DOTS + 1) body))
-  after_small I l = (rest-small b (firsts_of b) (good-ready I.good) i _ _ I.item.prod (rest_at l)).1
+  pub after_small : Good b → Item b i → i % DOTS < length body → Small (take (length body - (i % DOTS + 1)) (drop (i % DOTS + 1) body))
+  after_small g I l = (rest-small b (firsts_of b) (good-ready g) i _ _ I.prod (rest_at l)).1
 
-  module _ (F : List Ahead) (s : List ℕ) (o : Offer) where
-    told : (u : List ℕ) → rest_of b i ≡ u → (a : ℕ × List ℕ) → offer_at F s u ≡ a → o.rule ≡ a.0 → o.set.words ≡ a.1
-        → OfferIs o (offer_of b F i s)
-    told u e a f r w = subst (λ c. OfferIs o c) (sym (offer-rest b i F s u e ∙ f)) (record { rule = r; set = w })
+  module _ (F : List Ahead) (s : List ℕ) where
+    offers : (u : List ℕ) → rest_of b i ≡ u → (a : Option (ℕ × List ℕ)) → offer_at F s u ≡ a → a ≡ offer_of b F i s
+    offers u e a f = sym (offer-rest b i F s u e ∙ f)
 
-    pub offer-end : length body ≤ i % DOTS → o.rule ≡ RULES → o.set.words ≡ s → OfferIs o (offer_of b F i s)
-    offer-end l r w = told [] (rest-of ∙ drop_of_length-le body {i = i % DOTS} l) (RULES, s) refl r w
+    pub offer-end : length body ≤ i % DOTS → None ≡ offer_of b F i s
+    offer-end l = offers [] (rest-of ∙ drop_of_length-le body {i = i % DOTS} l) None refl
 
     module _ (l : i % DOTS < length body) where
-      pub offer-token : get_or body (i % DOTS) 0 % 2 ≡ 1 → o.rule ≡ RULES → o.set.words ≡ s → OfferIs o (offer_of b F i s)
-      offer-token e r w =
-          told _ (rest_at l) (RULES, s) (ap (λ (c : Bool). cond c (get_or body (i % DOTS) 0 / 2, handed s (ahead_of F (take (length body - (i % DOTS + 1)) (drop (i % DOTS + 1) body)))) (RULES, s))
-          (ne_eqb (get_or body (i % DOTS) 0 % 2) 0 (λ z. omega arith))) r w
+      pub offer-token : get_or body (i % DOTS) 0 % 2 ≡ 1 → None ≡ offer_of b F i s
+      offer-token e =
+          offers _ (rest_at l) None
+          (ap (λ (c : Bool). cond c (Some (get_or body (i % DOTS) 0 / 2, handed s (ahead_of F (take (length body - (i % DOTS + 1)) (drop (i % DOTS + 1) body))))) None)
+          (ne_eqb (get_or body (i % DOTS) 0 % 2) 0 (λ z. omega arith)))
 
-      module _ (e : get_or body (i % DOTS) 0 % 2 ≡ 0) (r : o.rule ≡ get_or body (i % DOTS) 0 / 2) (a : Lookahead)
-          (A : AheadIs a (ahead_of F (take (length body - (i % DOTS + 1)) (drop (i % DOTS + 1) body)))) where
-        given : o.set.words ≡ handed s (ahead a.null a.set.words) → OfferIs o (offer_of b F i s)
+      -- a is ahead in the rest behind the rule, and u what is handed on
+      module _ (e : get_or body (i % DOTS) 0 % 2 ≡ 0) (a : Lookahead)
+          (A : AheadIs a (ahead_of F (take (length body - (i % DOTS + 1)) (drop (i % DOTS + 1) body)))) (u : List ℕ) where
+        given : u ≡ handed s (ahead a.null a.set.words) → Some (get_or body (i % DOTS) 0 / 2, u) ≡ offer_of b F i s
         given w =
-            told _ (rest_at l) (get_or body (i % DOTS) 0 / 2, handed s (ahead a.null a.set.words))
-            (ap (λ (c : Bool). cond c (get_or body (i % DOTS) 0 / 2, handed s (ahead_of F (take (length body - (i % DOTS + 1)) (drop (i % DOTS + 1) body)))) (RULES, s))
+            offers _ (rest_at l) (Some (get_or body (i % DOTS) 0 / 2, u))
+            (ap (λ (c : Bool). cond c (Some (get_or body (i % DOTS) 0 / 2, handed s (ahead_of F (take (length body - (i % DOTS + 1)) (drop (i % DOTS + 1) body))))) None)
             (eq-eqb (get_or body (i % DOTS) 0 % 2) 0 e)
-            ∙ ap (λ (c : Ahead). (get_or body (i % DOTS) 0 / 2, handed s c)) (ahead-eta _ a.null a.set.words A.null A.words))
-            r w
+            ∙ ap (λ (c : Ahead). Some (get_or body (i % DOTS) 0 / 2, handed s c)) (ahead-eta _ a.null a.set.words A.null A.words)
+            ∙ ap (λ (v : List ℕ). Some (get_or body (i % DOTS) 0 / 2, v)) (sym w))
 
         -- the rest is nullable: the own context too
-        pub offer-own : a.null ≡ true → o.set.words ≡ join a.set.words s → OfferIs o (offer_of b F i s)
+        pub offer-own : a.null ≡ true → u ≡ join a.set.words s → Some (get_or body (i % DOTS) 0 / 2, u) ≡ offer_of b F i s
         unfolding handed
         offer-own n w = given (w ∙ ap (λ (c : Bool). handed s (ahead c a.set.words)) (sym n))
 
-        pub offer-first : a.null ≡ false → o.set.words ≡ a.set.words → OfferIs o (offer_of b F i s)
+        pub offer-first : a.null ≡ false → u ≡ a.set.words → Some (get_or body (i % DOTS) 0 / 2, u) ≡ offer_of b F i s
         unfolding handed
         offer-first n w = given (w ∙ ap (λ (c : Bool). handed s (ahead c a.set.words)) (sym n))

@@ -1,5 +1,4 @@
 -- The rows of a kernel come in, one after the other, as they stand in its words. Assumes nothing.
-use mathlib.Core.Bool.{Bool}
 use mathlib.Core.List.{List}
 use mathlib.Core.Path.{◌≡◌, sym, ap, ◌∙◌, subst}
 use Prim.Native.Nat.{ℕ, ◌+◌, ◌*◌, ◌/◌, ◌%◌, ◌<◌}
@@ -7,16 +6,13 @@ use native.Mathlib.Omega.{arith}
 use lib.ListN.{length, get_or, take, drop}
 use Rattle.block.specs.Limits.{WORDS, ITEM, DOTS, PRODS}
 use Rattle.block.specs.Block.{prods}
-use Rattle.block.specs.Sets.{Fits, join}
+use Rattle.block.specs.Sets.{Fits}
 use Rattle.block.specs.First.{firsts_of}
-use Rattle.block.specs.declared.set.TokenSet.{TokenSet}
 use Rattle.block.proofs.Good.{placed}
-use Rattle.itemset.specs.declared.zeros.Zeros.{Zeros}
-use Rattle.itemset.specs.Rows.{Row, row}
+use Rattle.itemset.specs.declared.closure.Closure.{Closure}
+use Rattle.itemset.specs.Rows.{Row, row, Item}
 use Rattle.itemset.specs.Kernel.{kernel_of}
-use Rattle.itemset.specs.Opens.{ItemOf}
-use Rattle.itemset.specs.Lay.{contexts_of}
-use Rattle.itemset.specs.Work.{HandedOn, Working, ForSeed}
+use Rattle.itemset.specs.Work.{TookAt, HandedOn, Working, ForSeed}
 use Rattle.itemset.proofs.Words.{item_of, context_of, no_row}
 use Rattle.itemset.proofs.Has.{Has, has-fits}
 use Rattle.itemset.proofs.RowAt.{has-at}
@@ -24,12 +20,11 @@ use Rattle.itemset.proofs.LentRows.{in_rows, in_row, in-known}
 use Rattle.itemset.proofs.GoodReady.{good-ready}
 use Rattle.itemset.proofs.Inside.{Sound}
 use Rattle.itemset.proofs.WorkList.{kernel-sound}
-use Rattle.itemset.proofs.Work.Cells.{enter}
 use Rattle.itemset.proofs.Work.Steps.{handed-work, handed-done, row-work, entered-work, entered-zero}
 
-module _ (b : List ℕ) (N : List Bool) (W ws : List ℕ) (K : List Row) (S : ForSeed b N W ws K) where
+module _ (b ws : List ℕ) (K : List Row) (start : Closure) (S : ForSeed b ws K start) where
   -- all rows are in
-  pub seed-all : (z : Zeros) (k : ℕ) → k ≡ length ws / ITEM → Working b (firsts_of b) K k (prods b) z
+  pub seed-all : (z : Closure) (k : ℕ) → k ≡ length ws / ITEM → Working b (firsts_of b) K k (prods b) z
       → Working b (firsts_of b) K (length K) (prods b) z
   seed-all z k e T = subst (λ n. Working b (firsts_of b) K n (prods b) z) (e ∙ in_rows S.kernel) T
 
@@ -41,11 +36,11 @@ module _ (b : List ℕ) (N : List Bool) (W ws : List ℕ) (K : List Row) (S : Fo
     abbrev pub item : ℕ
     item = get_or ws (ITEM * k) 0
 
-    pub seed-item : ItemOf b item
-    seed-item = record { good = S.kernel.good; item = in-known S.kernel k below }
+    pub seed-item : Item b item
+    seed-item = in-known S.kernel k below
 
     pub seed-low : item / DOTS < PRODS
-    seed-low = let a = seed-item.item.prod in let m = (placed S.kernel.good).prods-most in omega arith
+    seed-low = let a = seed-item.prod in let m = (placed S.kernel.good).prods-most in omega arith
 
     -- and its context
     module _ (s : List ℕ) (es : s ≡ take WORDS (drop (ITEM * k + 1) ws)) where
@@ -61,17 +56,16 @@ module _ (b : List ℕ) (N : List Bool) (W ws : List ℕ) (K : List Row) (S : Fo
       fits : Fits WORDS s
       fits = has-fits item s K S.kernel.rows.sets has
 
-      module _ (y : Zeros) (T : Working b (firsts_of b) K k (prods b) y) where
+      module _ (y : Closure) (T : Working b (firsts_of b) K k (prods b) y) where
         -- it has dot 0
-        pub seed-zero : item % DOTS ≡ 0 → (v : TokenSet) → v.words ≡ join (contexts_of y (item / DOTS)) s
-            → Working b (firsts_of b) K (k + 1) (prods b) (enter y T.size (item / DOTS) seed-low v)
-        seed-zero e v j =
-            row-work b (firsts_of b) K k (prods b) (enter y T.size (item / DOTS) seed-low v) item s is_row
-            (entered-work b (firsts_of b) K k (prods b) y T item seed-low s sound fits e v j)
-            (entered-zero b (firsts_of b) K k (prods b) y T item seed-low s sound fits e v j)
+        pub seed-zero : item % DOTS ≡ 0 → (z : Closure) → TookAt (item / DOTS) s y z → Working b (firsts_of b) K (k + 1) (prods b) z
+        seed-zero e z A =
+            row-work b (firsts_of b) K k (prods b) z item s is_row
+            (entered-work b (firsts_of b) K k (prods b) y T item s sound fits e z A)
+            (entered-zero b (firsts_of b) K k (prods b) y T item s sound fits e z A)
 
         -- it has another dot
-        pub seed-more : (item % DOTS ≡ 0 → ⊥) → (z : Zeros) → HandedOn b (firsts_of b) item s y z
+        pub seed-more : (item % DOTS ≡ 0 → ⊥) → (z : Closure) → HandedOn b (firsts_of b) item s y z
             → Working b (firsts_of b) K (k + 1) (prods b) z
         seed-more d z H =
             row-work b (firsts_of b) K k (prods b) z item s is_row

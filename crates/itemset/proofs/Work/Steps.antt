@@ -11,30 +11,30 @@ use Rattle.knuth.specs.Closure.{Closed, Holds}
 use Rattle.block.specs.Limits.{WORDS, DOTS, PRODS}
 use Rattle.block.specs.Block.{prods}
 use Rattle.block.specs.Grammar.{grammar_of}
-use Rattle.block.specs.Sets.{mem, In, Fits, empty, join}
+use Rattle.block.specs.Sets.{mem, In, Fits, empty}
 use Rattle.block.specs.First.{Ahead, ahead_of}
 use Rattle.block.specs.declared.set.TokenSet.{TokenSet}
 use Rattle.block.proofs.ListLaws.{get_d-same}
 use Rattle.block.proofs.SetLaws.{mem-empty, empty-fits}
 use Rattle.block.proofs.Joins.{In-join-right}
-use Rattle.itemset.specs.declared.zeros.Zeros.{Zeros}
+use Rattle.itemset.specs.declared.closure.Closure.{Closure}
 use Rattle.itemset.specs.Rows.{Row, row}
 use Rattle.itemset.specs.Kernel.{kernel_of}
 use Rattle.itemset.specs.Close.{handed}
 use Rattle.itemset.specs.Ready.{Ready}
 use Rattle.itemset.specs.Opens.{Done}
 use Rattle.itemset.specs.Lay.{marks_of, contexts_of}
-use Rattle.itemset.specs.Work.{todo_of, HandedOn, Entered, Working}
+use Rattle.itemset.specs.Work.{todo_of, TookAt, HandedOn, Entered, Working}
 use Rattle.itemset.proofs.Words.{item_of, context_of, no_row}
 use Rattle.itemset.proofs.Handed.{handed-fits}
 use Rattle.itemset.proofs.Inside.{Sound, opened, handed-holds}
 use Rattle.itemset.proofs.Work.Offers.{opens-or}
-use Rattle.itemset.proofs.Work.Cells.{unmark, unmark-size, unmark-other, enter, enter-size, enter-todo, enter-mark, enter-set, enter-other}
+use Rattle.itemset.proofs.Work.Cells.{unmark, unmark-size, unmark-other}
 use Rattle.itemset.proofs.Work.Changes.{Change, still, took, change-same, work-grows}
 
 module _ (b : List ℕ) (F : List Ahead) (K : List Row) (n h : ℕ) where
   -- ---- an item of the closure hands on what it has
-  module _ (ready : Ready b F) (y z : Zeros) (W : Working b F K n h y) (i : ℕ) (s : List ℕ) (S : Sound b (kernel_of K) i s) (f : Fits WORDS s)
+  module _ (ready : Ready b F) (y z : Closure) (W : Working b F K n h y) (i : ℕ) (s : List ℕ) (S : Sound b (kernel_of K) i s) (f : Fits WORDS s)
       (H : HandedOn b F i s y z) where
     pub handed-change : (q : ℕ) → q < prods b → Change b K y z q
     handed-change q l =
@@ -57,7 +57,7 @@ module _ (b : List ℕ) (F : List Ahead) (K : List Row) (n h : ℕ) where
         }
 
   -- ---- the next row of the kernel is in
-  pub row-work : (z : Zeros) (i : ℕ) (s : List ℕ) → get_or K n no_row ≡ row i s → Working b F K n h z
+  pub row-work : (z : Closure) (i : ℕ) (s : List ℕ) → get_or K n no_row ≡ row i s → Working b F K n h z
       → Entered b F (marks_of z) (contexts_of z) i s → Working b F K (n + 1) h z
   row-work z i s r W E =
       record {
@@ -74,47 +74,36 @@ module _ (b : List ℕ) (F : List Ahead) (K : List Row) (n h : ℕ) where
         ];
       }
 
-  -- ---- an item with dot 0 of the closure comes in
-  module _ (y : Zeros) (W : Working b F K n h y) (i : ℕ) (low : i / DOTS < PRODS) (s : List ℕ) (S : Sound b (kernel_of K) i s)
-      (f : Fits WORDS s) (e : i % DOTS ≡ 0) where
-    module _ (v : TokenSet) (j : v.words ≡ join (contexts_of y (i / DOTS)) s) where
-      entered-change : (q : ℕ) → q < prods b → Change b K y (enter y W.size (i / DOTS) low v) q
-      entered-change q l =
-          elim (ℕ_discrete q (i / DOTS)) [
-            | yes g ↦ subst (λ p. Change b K y (enter y W.size (i / DOTS) low v) p) (sym g) here
-            | no d ↦ still (enter-other y W.size (i / DOTS) low v q d)
-          ]
-        where
-          here : Change b K y (enter y W.size (i / DOTS) low v) (i / DOTS)
-          here =
-              took s
-              (record {
-                mark = enter-mark y W.size (i / DOTS) low v;
-                set = enter-set y W.size (i / DOTS) low v ∙ j;
-                todo = inl (enter-todo y W.size (i / DOTS) low v);
-              })
-              (subst (λ d. Closed (grammar_of b) (kernel_of K) (i / DOTS) d) e S.item)
-              (λ t u. subst (λ d. Holds (grammar_of b) (kernel_of K) (i / DOTS) d t) e (S.tokens t u)) f
+  -- ---- an item with dot 0 of the closure comes in, from y to z
+  module _ (y : Closure) (W : Working b F K n h y) (i : ℕ) (s : List ℕ) (S : Sound b (kernel_of K) i s) (f : Fits WORDS s)
+      (e : i % DOTS ≡ 0) (z : Closure) (T : TookAt (i / DOTS) s y z) where
+    entered-change : (q : ℕ) → q < prods b → Change b K y z q
+    entered-change q l =
+        elim (ℕ_discrete q (i / DOTS)) [ yes g ↦ subst (λ p. Change b K y z p) (sym g) here | no d ↦ still (T.left q d) ]
+      where
+        here : Change b K y z (i / DOTS)
+        here =
+            took s T.took (subst (λ d. Closed (grammar_of b) (kernel_of K) (i / DOTS) d) e S.item)
+            (λ t u. subst (λ d. Holds (grammar_of b) (kernel_of K) (i / DOTS) d t) e (S.tokens t u)) f
 
-      pub entered-work : Working b F K n h (enter y W.size (i / DOTS) low v)
-      entered-work = work-grows b F K n h y (enter y W.size (i / DOTS) low v) W (enter-size y W.size (i / DOTS) low v) entered-change
+    pub entered-work : Working b F K n h z
+    entered-work = work-grows b F K n h y z W T.size entered-change
 
-      pub entered-zero : Entered b F (marks_of (enter y W.size (i / DOTS) low v)) (contexts_of (enter y W.size (i / DOTS) low v)) i s
-      entered-zero =
-          record {
-            below = S.below;
-            zero-mark = λ g. enter-mark y W.size (i / DOTS) low v;
-            zero-set = λ g t u.
-                subst (λ w. In w t) (sym (enter-set y W.size (i / DOTS) low v ∙ j)) (In-join-right (contexts_of y (i / DOTS)) s t u);
-            more = λ d. absurd (d e);
-          }
+    pub entered-zero : Entered b F (marks_of z) (contexts_of z) i s
+    entered-zero =
+        record {
+          below = S.below;
+          zero-mark = λ g. T.took.mark;
+          zero-set = λ g t u. subst (λ w. In w t) (sym T.took.set) (In-join-right (contexts_of y (i / DOTS)) s t u);
+          more = λ d. absurd (d e);
+        }
 
 -- ---- the start: nothing is in
 pub start-work : (b : List ℕ) (F : List Ahead) (K : List Row) → prods b ≤ PRODS → (none : TokenSet) → none.words ≡ empty
-    → Working b F K 0 (prods b) (record { todo = replicate PRODS false; here = replicate PRODS false; ctx = replicate PRODS none })
+    → Working b F K 0 (prods b) (record { todo = replicate PRODS false; here = replicate PRODS false; contexts = replicate PRODS none })
 start-work b F K m none e =
     record {
-      size = record { todo = length-replicate PRODS false; here = length-replicate PRODS false; ctx = length-replicate PRODS none };
+      size = record { todo = length-replicate PRODS false; here = length-replicate PRODS false; contexts = length-replicate PRODS none };
       sound = λ q l t. absurd (true≢false (sym t ∙ get_d-same PRODS q false));
       held = λ q l t i. absurd (true≢false (sym i ∙ ap (λ (s : List ℕ). mem s t) (ctx q l) ∙ mem-empty t));
       fits = λ q l. subst (λ s. Fits WORDS s) (sym (ctx q l)) empty-fits;
@@ -128,7 +117,7 @@ start-work b F K m none e =
 
 module _ (b : List ℕ) (F : List Ahead) (K : List Row) (n : ℕ) where
   -- ---- a production is taken into the hand
-  module _ (z : Zeros) (W : Working b F K n (prods b) z) (p : ℕ) (k : p < PRODS) where
+  module _ (z : Closure) (W : Working b F K n (prods b) z) (p : ℕ) (k : p < PRODS) where
     pub hand-work : todo_of z p ≡ true → Working b F K n p (unmark z W.size p k)
     hand-work t =
         record {
@@ -151,7 +140,7 @@ module _ (b : List ℕ) (F : List Ahead) (K : List Row) (n : ℕ) where
         }
 
   -- ---- and out of it, having handed on what it had
-  pub off-work : (p : ℕ) (y z : Zeros) → Working b F K n p z → Change b K y z p
+  pub off-work : (p : ℕ) (y z : Closure) → Working b F K n p z → Change b K y z p
       → Done b F (marks_of z) (contexts_of z) (DOTS * p) (contexts_of y p) → Working b F K n (prods b) z
   off-work p y z W C D =
       record {

@@ -11,7 +11,7 @@ use Rattle.block.specs.Block.{prods}
 use Rattle.block.specs.Sets.{join, Fits}
 use Rattle.block.specs.First.{Ahead}
 use Rattle.block.proofs.Joins.{weigh, join-grows, fits-weigh}
-use Rattle.itemset.specs.declared.zeros.Zeros.{Zeros}
+use Rattle.itemset.specs.declared.closure.Closure.{Closure}
 use Rattle.itemset.specs.Rows.{Row}
 use Rattle.itemset.specs.Lay.{marks_of, contexts_of}
 use Rattle.itemset.specs.Work.{todo_of, Sized, Cause, Working}
@@ -61,11 +61,11 @@ cell-took t h s add u f why = go u refl (join-grows s add)
         ]
 
 -- ---- all of them
-pub weight : List ℕ → Zeros → ℕ
+pub weight : List ℕ → Closure → ℕ
 weight b z = sum (λ q. cell (todo_of z q) (marks_of z q) (contexts_of z q)) (prods b)
 
 -- a step that marks only for a cause
-pub weight-step : (b : List ℕ) (F : List Ahead) (K : List Row) (n h : ℕ) (y z : Zeros) → Working b F K n h z
+pub weight-step : (b : List ℕ) (F : List Ahead) (K : List Row) (n h : ℕ) (y z : Closure) → Working b F K n h z
     → ((q : ℕ) → q < prods b → Change b K y z q) → ((q : ℕ) → Cause y z q) → weight b z ≤ weight b y
 unfolding weight
 weight-step b F K n h y z W C c = sum-le _ _ (prods b) (λ q l. one q l (C q l))
@@ -80,7 +80,7 @@ weight-step b F K n h y z W C c = sum-le _ _ (prods b) (λ q l. one q l (C q l))
         (λ t. elim (c q t) [ inl k ↦ inl k | inr k ↦ inr (elim k [ inl m ↦ inl m | inr m ↦ inr (λ e. m (T.set ∙ e)) ]) ])))
 
 -- a production is taken off the list
-pub weight-take : (b : List ℕ) (z : Zeros) (S : Sized z) (p : ℕ) (k : p < PRODS) → p < prods b → todo_of z p ≡ true
+pub weight-take : (b : List ℕ) (z : Closure) (S : Sized z) (p : ℕ) (k : p < PRODS) → p < prods b → todo_of z p ≡ true
     → weight b (unmark z S p k) < weight b z
 unfolding weight
 weight-take b z S p k l t = sum_lt _ _ (prods b) (λ q m. le q) p l lt

@@ -24,22 +24,15 @@ module _ (d s ws : List ℕ) (a b i : ℕ) (e : ws ≡ paste d b s i) (down : b 
   move-more : (v : ℕ) → v ≡ get_or s i 0 → set ws (b + i) v ≡ paste d b s (i + 1)
   move-more v q = rw (add-one, e, q) (paste-suc d b s i 0 (omega arith) in-s)
 
-module _ (d ws : List ℕ) (a b i : ℕ) (down : b ≤ a) (in-d : a + i < length d) where
-  -- the words as they are
-  pub move-word : ws ≡ paste d b (drop a d) i → set ws (b + i) (get_or ws (a + i) 0) ≡ paste d b (drop a d) (i + 1)
-  move-word e =
-      let l : i < length (drop a d) = omega (arith, length-drop a d) in
-      move-more d (drop a d) ws a b i e down in-d l (get_or ws (a + i) 0) (move_read d (drop a d) ws a b i e down in-d l ∙ sym (get_or-drop a d i 0))
+-- each word changed by f
+module _ (d ws : List ℕ) (a b i : ℕ) (down : b ≤ a) (in-d : a + i < length d) (f : ℕ → ℕ) (z : f 0 ≡ 0) (e : ws ≡ paste d b (map f (drop a d)) i) where
+  inside : i < length (map f (drop a d))
+  inside = omega (arith, length-drop a d, length-map (drop a d) f)
 
-  -- each word changed by f
-  module _ (f : ℕ → ℕ) (z : f 0 ≡ 0) (e : ws ≡ paste d b (map f (drop a d)) i) where
-    inside : i < length (map f (drop a d))
-    inside = omega (arith, length-drop a d, length-map (drop a d) f)
+  pub read-changed : get_or ws (a + i) 0 ≡ get_or d (a + i) 0
+  read-changed = move_read d (map f (drop a d)) ws a b i e down in-d inside
 
-    pub read-changed : get_or ws (a + i) 0 ≡ get_or d (a + i) 0
-    read-changed = move_read d (map f (drop a d)) ws a b i e down in-d inside
-
-    pub move-changed : (v : ℕ) → v ≡ f (get_or ws (a + i) 0) → set ws (b + i) v ≡ paste d b (map f (drop a d)) (i + 1)
-    move-changed v q =
-        move-more d (map f (drop a d)) ws a b i e down in-d inside v
-        (q ∙ ap f (read-changed ∙ sym (get_or-drop a d i 0)) ∙ sym (map_at f z (drop a d) i))
+  pub move-changed : (v : ℕ) → v ≡ f (get_or ws (a + i) 0) → set ws (b + i) v ≡ paste d b (map f (drop a d)) (i + 1)
+  move-changed v q =
+      move-more d (map f (drop a d)) ws a b i e down in-d inside v
+      (q ∙ ap f (read-changed ∙ sym (get_or-drop a d i 0)) ∙ sym (map_at f z (drop a d) i))

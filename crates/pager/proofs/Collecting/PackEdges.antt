@@ -2,7 +2,7 @@
 use mathlib.Core.Bool.{Bool, true, false}
 use mathlib.Core.List.{List, [], ◌∷◌, ◌++◌, map}
 use mathlib.Core.Path.{◌≡◌, refl, sym, ap, ap₂, ◌∙◌}
-use Prim.Native.Nat.{ℕ, zero, suc, ◌+◌, ◌*◌, ◌≤◌, ◌<◌}
+use Prim.Native.Nat.{ℕ, zero, suc, ◌+◌, ◌*◌, ◌/◌, ◌≤◌, ◌<◌}
 use native.Mathlib.Omega.{arith}
 use native.Mathlib.Numerals.{add-one}
 use lib.ListN.{length, get_or, take, drop, length-append, length-drop, length-map}
@@ -12,9 +12,10 @@ use Rattle.pager.specs.Place.{State}
 use Rattle.pager.specs.Graph.{nowhere}
 use Rattle.pager.specs.Collect.{renumber, kept}
 use Rattle.pager.specs.Memory.{pad, edge_words}
-use Rattle.pager.specs.Collecting.{flags_of, Shaped, Numbers, number_in, Numbered}
+use Rattle.pager.specs.Collecting.{flags_of, Shaped, EdgePart, Numbers, number_in, Numbered, kept_by}
 use Rattle.pager.proofs.Ranks.{renumbered}
 use Rattle.pager.proofs.Memory.{edges_more}
+use Rattle.pager.proofs.Collecting.Flags.{flags-length, flag_true, flag-false}
 use Rattle.pager.proofs.Collecting.StateWords.{edges_le, edges-before, edges-row, edges-inside}
 use Rattle.pager.proofs.Collecting.Over.{over, over-length, over-drop, over-paste, over-pad}
 use Rattle.pager.proofs.Collecting.Kept.{kept_to, kept-marked, kept-unmarked, kept-all, kept_to-edges}
@@ -44,13 +45,19 @@ pub link-none : (ms : List Bool) (ss : List State) (edges : List ℕ) → edges 
 unfolding edge_words each kept
 link-none ms ss edges e = record { edges_are = e; to_is = refl }
 
-module _ {w : ℕ} (marks : List ℕ) (ss : List State) (S : Shaped w ss) (edges : List ℕ) (to s : ℕ) (P : EdgePacking (flags_of marks) ss edges to s)
-    (low : s ≤ length ss) where
+module _ {w : ℕ} {ss : List State} {edges₀ marks : List ℕ} (E : EdgePart w ss edges₀ marks) {edges : List ℕ} {to s : ℕ}
+    (P : EdgePacking (flags_of marks) ss edges to s) (end : s ≤ length marks / 2) where
   abbrev ms : List Bool
   ms = flags_of marks
 
+  abbrev S : Shaped w ss
+  S = E.shaped
+
   abbrev rr : List State
   rr = kept_to ms ms ss s
+
+  low : s ≤ length ss
+  low = omega (arith, E.marks-long)
 
   fit : length (edge_words rr) ≤ length (edge_words ss)
   fit = omega (arith, kept_to-edges ms ms ss s low, edges_le s ss)
@@ -62,12 +69,16 @@ module _ {w : ℕ} (marks : List ℕ) (ss : List State) (S : Shaped w ss) (edges
   edges_room = omega (arith, same, fit, P.to_is)
 
   -- the end: what is left behind is made zero
-  pub linked-edges : length ss ≤ s → length ms ≡ length ss → (edges₀ : List ℕ) → edges₀ ≡ edge_words ss → (edges' : List ℕ)
-      → edges' ≡ pad (length edges) (take to edges) → edges' ≡ pad (length edges₀) (edge_words (kept ms ms ss))
-  linked-edges all size edges₀ e edges' q =
-      rw (e, ← kept-all ms ms ss s all size) (q ∙ over-pad (edge_words rr) (edge_words ss) edges P.edges_are fit to (sym P.to_is))
+  pub linked-edges : length marks / 2 ≤ s → {edges' : List ℕ} → edges' ≡ pad (length edges) (take to edges)
+      → edges' ≡ pad (length edges₀) (edge_words (kept_by marks ss))
+  linked-edges all q =
+      rw (E.edges-is, ← kept-all ms ms ss s (omega (arith, E.marks-long)) (flags-length marks (length ss) E.marks-long))
+      (q ∙ over-pad (edge_words rr) (edge_words ss) edges P.edges_are fit to (sym P.to_is))
 
-  module _ (l : s < length ss) where
+  module _ (before : s < length marks / 2) where
+    l : s < length ss
+    l = omega (arith, E.marks-long)
+
     abbrev row : List ℕ
     row = (get_or ss s nowhere).edges
 
@@ -83,19 +94,19 @@ module _ {w : ℕ} (marks : List ℕ) (ss : List State) (S : Shaped w ss) (edges
     row_in : s * w + w ≤ length edges
     row_in = omega (arith, same, edges-inside S s l)
 
-    pub edges-movable : length marks ≡ 2 * length ss
-        → (to ≤ s * w) × (s * w + w ≤ length edges) × ((i : ℕ) → i < w → 2 * get_or edges (s * w + i) 0 ≤ length marks)
-    edges-movable r = (to_low, row_in, λ i h. word i h)
+    pub edges-movable : (to ≤ s * w) × (s * w + w ≤ length edges) × ((i : ℕ) → i < w → 2 * get_or edges (s * w + i) 0 ≤ length marks)
+    edges-movable = (to_low, row_in, λ i h. word i h)
       where
         read : (i : ℕ) → i < w → get_or edges (s * w + i) 0 ≡ get_or row i 0
         read i h = sym (get_or-drop (s * w) edges i 0) ∙ sym (get_or-take w (drop (s * w) edges) i 0 h) ∙ ap (λ q. get_or q i 0) row_is
 
         word : (i : ℕ) → i < w → 2 * get_or edges (s * w + i) 0 ≤ length marks
-        word i h = omega (arith, read i h, S.low s i, r)
+        word i h = omega (arith, read i h, S.low s i, E.marks-long)
 
-    pub link-marked : Numbered ss marks → get_or ms s false ≡ true → (edges' : List ℕ)
+    pub link-marked : Numbered ss marks → (get_or marks (2 * s) 0 ≡ 0 → ⊥) → {edges' : List ℕ}
         → edges' ≡ paste edges to (map (number_in marks) (drop (s * w) edges)) w → EdgePacking ms ss edges' (to + w) (s + 1)
-    link-marked N e edges' q =
+    link-marked N n q =
+        let e : get_or ms s false ≡ true = flag_true marks s (omega arith) n in
         let z : kept_to ms ms ss (s + 1) ≡ rr ++ (renumbered ms (get_or ss s nowhere) ∷ []) = rw add-one (kept-marked ms ms ss s l e) in
         record {
           edges_are = rw z (q ∙ moved ∙ ap (λ ws. over ws (edge_words ss)) (sym (edges_more rr (renumbered ms (get_or ss s nowhere)))));
@@ -114,7 +125,7 @@ module _ {w : ℕ} (marks : List ℕ) (ss : List State) (S : Shaped w ss) (edges
         new =
             take-map (number_in marks) w (drop (s * w) edges)
             ∙ ap (map (number_in marks)) row_is
-            ∙ map-agree (number_in marks) (renumber ms) row (λ i. word-new ms marks N.numbers (get_or row i 0) (λ t h. N.closed s i t e h))
+            ∙ map-agree (number_in marks) (renumber ms) row (λ i. word-new ms marks N.numbers (get_or row i 0) (λ t h. N.closed s i t (flag_true marks s (omega arith) n) h))
 
         moved : paste edges to (map (number_in marks) (drop (s * w) edges)) w ≡ over (edge_words rr ++ map (renumber ms) row) (edge_words ss)
         moved =
@@ -122,7 +133,7 @@ module _ {w : ℕ} (marks : List ℕ) (ss : List State) (S : Shaped w ss) (edges
             (omega (arith, length-map (drop (s * w) edges) (number_in marks), length-drop (s * w) edges, row_in))
             ∙ ap (λ ws. over (edge_words rr ++ ws) (edge_words ss)) new
 
-    pub link-unmarked : get_or ms s false ≡ false → EdgePacking ms ss edges to (s + 1)
+    pub link-unmarked : get_or marks (2 * s) 0 ≡ 0 → EdgePacking ms ss edges to (s + 1)
     link-unmarked e =
-        let z : kept_to ms ms ss (s + 1) ≡ rr = rw add-one (kept-unmarked ms ms ss s l e) in
+        let z : kept_to ms ms ss (s + 1) ≡ rr = rw add-one (kept-unmarked ms ms ss s l (flag-false marks s (omega arith) e)) in
         record { edges_are = rw z P.edges_are; to_is = rw z P.to_is }

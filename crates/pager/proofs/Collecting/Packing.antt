@@ -2,7 +2,7 @@
 use mathlib.Core.Bool.{Bool, true, false}
 use mathlib.Core.List.{List, [], ◌∷◌, ◌++◌}
 use mathlib.Core.Path.{◌≡◌, refl, sym, ap, ◌∙◌}
-use Prim.Native.Nat.{ℕ, ◌+◌, ◌*◌, ◌≤◌, ◌<◌}
+use Prim.Native.Nat.{ℕ, ◌+◌, ◌*◌, ◌/◌, ◌≤◌, ◌<◌}
 use native.Mathlib.Omega.{arith}
 use native.Mathlib.Numerals.{add-one}
 use lib.ListN.{length, get_or, take, drop, set, length-append, length-drop}
@@ -14,10 +14,11 @@ use Rattle.pager.specs.Place.{State, items}
 use Rattle.pager.specs.Graph.{nowhere}
 use Rattle.pager.specs.Collect.{kept}
 use Rattle.pager.specs.Memory.{pad, item_words, spans_from}
-use Rattle.pager.specs.Collecting.{ItemsLeft}
+use Rattle.pager.specs.Collecting.{flags_of, Movable, ItemPart, ItemsLeft}
 use Rattle.pager.proofs.Ranks.{renumbered}
 use Rattle.pager.proofs.Grown.{snoc-items}
 use Rattle.pager.proofs.Memory.{AllSets, items-length, items-take, items_more, spans-length, spans-first, spans-count, spans-more}
+use Rattle.pager.proofs.Collecting.Flags.{flags-length, flag_true, flag-false}
 use Rattle.pager.proofs.Collecting.StateWords.{items-le, items-part}
 use Rattle.pager.proofs.Collecting.Over.{over, over-length, over-drop, over-at, over-paste, over-pad, over-two}
 use Rattle.pager.proofs.Collecting.Kept.{kept_to, kept-marked, kept-unmarked, kept-all, kept_to-few, kept_to-fit, kept_to-words}
@@ -33,15 +34,17 @@ pub pack-none : (ms : List Bool) (ss : List State) (its spans : List ℕ) → it
 unfolding item_words items spans_from kept each
 pack-none ms ss its spans e f = record { items-are = e; spans-are = f; states = refl; rows = refl }
 
--- what the code needs of the numbers, where state s is moved
-pub record Movable (its spans : List ℕ) (k row s : ℕ) : Type 0 where
-  pub span-in : 2 * s + 1 < length spans
-  pub state-low : k ≤ s
-  pub row_low : row ≤ get_or spans (2 * s) 0
-  pub part_in : ITEM * get_or spans (2 * s) 0 + ITEM * get_or spans (2 * s + 1) 0 ≤ length its
+module _ {ss : List State} {its₀ spans₀ marks : List ℕ} (I : ItemPart ss its₀ spans₀ marks) {its spans : List ℕ} {k row s : ℕ}
+    (P : Packing (flags_of marks) ss its spans k row s) (end : s ≤ length marks / 2) where
+  abbrev ms : List Bool
+  ms = flags_of marks
 
-module _ (ms : List Bool) (ss : List State) (sets : AllSets ss) (its spans : List ℕ) (k row s : ℕ) (P : Packing ms ss its spans k row s)
-    (low : s ≤ length ss) where
+  abbrev sets : AllSets ss
+  sets = I.sets
+
+  low : s ≤ length ss
+  low = omega (arith, I.marks-long)
+
   abbrev rr : List State
   rr = kept_to ms ms ss s
 
@@ -70,22 +73,25 @@ module _ (ms : List Bool) (ss : List State) (sets : AllSets ss) (its spans : Lis
   pack-spans : pad (length spans) (take (2 * k) spans) ≡ pad (length (spans_from 0 ss)) (spans_from 0 rr)
   pack-spans = over-pad (spans_from 0 rr) (spans_from 0 ss) spans P.spans-are spans_fit (2 * k) twice
 
-  module _ (all : length ss ≤ s) (size : length ms ≡ length ss) where
+  module _ (all : length marks / 2 ≤ s) where
     all-kept : rr ≡ kept ms ms ss
-    all-kept = kept-all ms ms ss s all size
+    all-kept = kept-all ms ms ss s (omega (arith, I.marks-long)) (flags-length marks (length ss) I.marks-long)
 
-    -- its₀ and spans₀ are the parts as they were, its' and spans' as they are left
-    pub packed : (its₀ spans₀ : List ℕ) → its₀ ≡ item_words ss → spans₀ ≡ spans_from 0 ss → (its' spans' : List ℕ)
+    -- its' and spans' are the parts as they are left
+    pub packed : {its' spans' : List ℕ}
         → its' ≡ pad (length its) (take (ITEM * row) its) → spans' ≡ pad (length spans) (take (2 * k) spans)
-        → ItemsLeft (kept ms ms ss) its₀ spans₀ (record { states = k; items = row; stop = 0 }) its' spans'
-    packed its₀ spans₀ e f its' spans' q r =
+        → ItemsLeft (kept ms ms ss) its₀ spans₀ (record { states = k; items = row }) its' spans'
+    packed q r =
         record {
           answer = rw (← all-kept, P.states, P.rows) refl;
-          items-are = rw (e, ← all-kept) (q ∙ pack-items);
-          spans-are = rw (f, ← all-kept) (r ∙ pack-spans);
+          items-are = rw (I.items-is, ← all-kept) (q ∙ pack-items);
+          spans-are = rw (I.spans-is, ← all-kept) (r ∙ pack-spans);
         }
 
-  module _ (l : s < length ss) where
+  module _ (before : s < length marks / 2) where
+    l : s < length ss
+    l = omega (arith, I.marks-long)
+
     abbrev st : State
     st = get_or ss s nowhere
 
@@ -149,10 +155,11 @@ module _ (ms : List Bool) (ss : List State) (sets : AllSets ss) (its spans : Lis
         let z : 0 + items rr ≡ row = omega (arith, P.rows) in
         spans-more 0 rr (renumbered ms st) ∙ rw (z, count-is) refl
 
-    pub pack-marked : get_or ms s false ≡ true → (its' : List ℕ)
+    pub pack-marked : (get_or marks (2 * s) 0 ≡ 0 → ⊥) → {its' : List ℕ}
         → its' ≡ paste its (ITEM * row) (drop (ITEM * get_or spans (2 * s) 0) its) (ITEM * get_or spans (2 * s + 1) 0)
         → Packing ms ss its' (set (set spans (2 * k) row) (2 * k + 1) (get_or spans (2 * s + 1) 0)) (k + 1) (row + get_or spans (2 * s + 1) 0) (s + 1)
-    pack-marked e its' q =
+    pack-marked n q =
+        let e : get_or ms s false ≡ true = flag_true marks s (omega arith) n in
         let z : kept_to ms ms ss (s + 1) ≡ rr ++ (renumbered ms st ∷ []) = rw add-one (kept-marked ms ms ss s l e) in
         record {
           items-are = rw z (q ∙ moved ∙ ap (λ ws. over ws (item_words ss)) (sym (items_more rr (renumbered ms st))));
@@ -161,9 +168,9 @@ module _ (ms : List Bool) (ss : List State) (sets : AllSets ss) (its spans : Lis
           rows = rw z (omega (arith, P.rows, snoc-items rr (renumbered ms st), count-is));
         }
 
-    pub pack-unmarked : get_or ms s false ≡ false → Packing ms ss its spans k row (s + 1)
+    pub pack-unmarked : get_or marks (2 * s) 0 ≡ 0 → Packing ms ss its spans k row (s + 1)
     pack-unmarked e =
-        let z : kept_to ms ms ss (s + 1) ≡ rr = rw add-one (kept-unmarked ms ms ss s l e) in
+        let z : kept_to ms ms ss (s + 1) ≡ rr = rw add-one (kept-unmarked ms ms ss s l (flag-false marks s (omega arith) e)) in
         record {
           items-are = rw z P.items-are;
           spans-are = rw z P.spans-are;

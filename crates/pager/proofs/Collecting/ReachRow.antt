@@ -3,8 +3,7 @@ use mathlib.Core.Bool.{Bool, true, false}
 use mathlib.Core.List.{List, [], ◌∷◌, foldl, foldl-append}
 use mathlib.Core.Logic.{◌⊎◌, inl, inr}
 use mathlib.Core.Path.{◌≡◌, refl, sym, ap, ◌∙◌}
-use Prim.Native.Nat.{ℕ, suc, ◌+◌, ◌*◌, ◌-◌, ◌≤◌, ◌<◌}
-use native.Mathlib.Nat.{pos_of_ne-zero}
+use Prim.Native.Nat.{ℕ, suc, ◌+◌, ◌*◌, ◌≤◌, ◌<◌}
 use native.Mathlib.Omega.{arith}
 use native.Mathlib.Decide.{dec_lt}
 use native.Mathlib.Numerals.{add-one}
@@ -14,17 +13,6 @@ use Rattle.pager.specs.Collect.{mark_to}
 use Rattle.pager.specs.Collecting.{flags_of, count, stack_at, OnStack, RowReady, RowReached}
 use Rattle.pager.proofs.Marks.{set-stays, set-only}
 use Rattle.pager.proofs.Collecting.Flags.{flags-fit, flag-below, flag_true, flag-false, flag-set, flag-stack, count_set, count-lt}
-
-pub row-none : (marks : List ℕ) (h : ℕ) → RowReached [] marks h marks h
-row-none marks h =
-    record {
-      grows = omega arith;
-      flags = refl;
-      old = λ j l. refl;
-      marked = λ j l g. absurd (omega arith);
-      new = λ k e. inl e;
-      height = refl;
-    }
 
 module _ (row marks : List ℕ) (h i : ℕ) (marks' : List ℕ) (e : ℕ) (R : RowReached (take i row) marks h marks' e) (l : i < length row) where
   one_more : (w : ℕ) → w ≡ get_or row i 0 → foldl mark_to (flags_of marks) (take (i + 1) row) ≡ mark_to (foldl mark_to (flags_of marks) (take i row)) w
@@ -105,32 +93,20 @@ module _ (row marks : List ℕ) (h i : ℕ) (marks' : List ℕ) (e : ℕ) (R : R
           is-new k (inr q) =
               elim (R.new k q) [ inl o ↦ inl o | inr o ↦ inr (o.0, o.1, (let m = o.2 in omega arith), below o.0 o.2 ∙ o.3) ]
 
-  -- the same, as the code reads the words
-  module _ (A : RowReady row marks h) (same : length marks' ≡ length marks) (some : get_or row i 0 ≡ 0 → ⊥) where
-    abbrev w : ℕ
-    w = get_or row i 0
+  -- the same of a row that the code is lent
+  module _ (A : RowReady row marks h) (same : length marks' ≡ length marks) (t : ℕ) (w : get_or row i 0 ≡ suc t) where
+    low : 2 * t + 1 < length marks'
+    low = omega (arith, w, A.low i)
 
-    at : 2 * w - 2 ≡ 2 * (w - 1)
-    at = omega arith
+    pub row-known : (get_or marks' (2 * t) 0 ≡ 0 → ⊥) → RowReached (take (i + 1) row) marks h marks' e
+    row-known n = known t w low n
 
-    to : w ≡ suc (w - 1)
-    to = omega (arith, pos_of_ne-zero some)
-
-    low : 2 * (w - 1) + 1 < length marks'
-    low = omega (arith, pos_of_ne-zero some, A.low i)
-
-    pub row-known : (get_or marks' (2 * w - 2) 0 ≡ 0 → ⊥) → RowReached (take (i + 1) row) marks h marks' e
-    row-known n = known (w - 1) to low (λ z. n (ap (λ k. get_or marks' k 0) at ∙ z))
-
-    module _ (z : get_or marks' (2 * w - 2) 0 ≡ 0) where
-      not-marked : get_or marks' (2 * (w - 1)) 0 ≡ 0
-      not-marked = ap (λ k. get_or marks' k 0) (sym at) ∙ z
-
+    module _ (z : get_or marks' (2 * t) 0 ≡ 0) where
       few : e ≤ count (flags_of marks')
       few = omega (arith, R.height, A.room)
 
-      pub row_room : 2 * e + 1 < length marks'
-      row_room = top-room (w - 1) to low not-marked few
+      pub row_room : (2 * t + 1 < length marks') × (2 * e + 1 < length marks')
+      row_room = (low, top-room t w low z few)
 
-      pub row-push : RowReached (take (i + 1) row) marks h (set (set marks' (2 * w - 2) 1) (2 * e + 1) (w - 1)) (e + 1)
-      row-push = rw at (push (w - 1) to low not-marked few)
+      pub row-push : RowReached (take (i + 1) row) marks h (set (set marks' (2 * t) 1) (2 * e + 1) t) (e + 1)
+      row-push = push t w low z few

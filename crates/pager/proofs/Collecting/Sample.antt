@@ -33,7 +33,7 @@ whole =
       behind = record { items = 7 ∷ []; spans = 7 ∷ []; edges = 7 ∷ []; marks = 7 ∷ [] };
     }
 
-pub sample-built : Built (count_of 0 (start_state g1 ∷ [])) 4 (0 ∷ with empty 1 ++ replicate ITEM 0 ++ (7 ∷ [])) (0 ∷ 1 ∷ 0 ∷ 0 ∷ 7 ∷ [])
+pub sample-built : Built (count_of (start_state g1 ∷ [])) 4 (0 ∷ with empty 1 ++ replicate ITEM 0 ++ (7 ∷ [])) (0 ∷ 1 ∷ 0 ∷ 0 ∷ 7 ∷ [])
     (0 ∷ 0 ∷ 0 ∷ 0 ∷ 0 ∷ 0 ∷ 0 ∷ 0 ∷ 7 ∷ []) (0 ∷ 1 ∷ 0 ∷ 0 ∷ 7 ∷ []) whole
 unfolding pad item_words spans_from edge_words mark_words each words_of start_state new with empty
 sample-built =

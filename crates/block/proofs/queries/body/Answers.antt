@@ -1,20 +1,12 @@
--- `queries::body` meets its contract. Assumes nothing.
-use Rattle.std.proofs.Common.{◌≡◌, sym, ◌∙◌, arith}
-use Rattle.block.specs.Refusal.{body_refusal}
-use Rattle.block.proofs.Ways.{part_none, part-is, part-known}
+-- `body` meets its contract. Assumes nothing.
+use Rattle.std.proofs.Common.{sym, ◌∙◌}
+use Rattle.block.specs.Bodies.{body_number}
+use Rattle.block.proofs.Ways.{body-some, part_none, part-is}
 use Rattle.block.proofs.queries.body.Goals as goal
-use Rattle.block.proofs.queries.body.Goals.{Else-body_refusal-ne0}
 
-unrefused : (c : Else-body_refusal-ne0) → body_refusal c.args.block.now c.args.p ≡ 0
-unrefused c = let z : c.body_refusal.result ≡ 0 = omega arith in
-    sym c.body_refusal.ensures ∙ z
+pub returns-in-Ok : goal.returns-in-Ok
+returns-in-Ok c = c.in-Ok.ensures.part ∙ part-is c.args.words.now c.args.p (sym c.in-Ok.ensures.refusal)
 
-pub returns-then-body_refusal-ne0 : goal.returns-then-body_refusal-ne0
-returns-then-body_refusal-ne0 c = part_none c.args.block.now c.args.p c.body_refusal.result c.body_refusal.ensures (λ e. omega arith)
-
-pub body_of-requires : goal.body_of-requires
-body_of-requires c = part-known c.args.block.now c.args.p (unrefused c)
-
-pub returns : goal.returns
-returns c =
-    c.body_of.ensures ∙ part-is c.args.block.now c.args.p (unrefused (goal.at.returns c).Else-body_refusal-ne0)
+pub returns-in-Err : goal.returns-in-Err
+returns-in-Err c =
+    part_none c.args.words.now c.args.p (body_number c.in-Err.field-0) c.in-Err.ensures.refusal (body-some c.in-Err.field-0)

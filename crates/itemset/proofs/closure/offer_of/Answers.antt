@@ -1,40 +1,47 @@
 -- `offer_of` meets its contract: the laws of proofs/Work/Offers. Assumes nothing.
-use Rattle.std.proofs.Common.{refl, arith}
-use Rattle.block.proofs.FirstRest.{even-of}
+use Rattle.std.proofs.Common.{refl, arith, ◌%◌, get_or}
+use Rattle.block.specs.Limits.{DOTS}
+use Rattle.block.specs.First.{firsts_of}
+use Rattle.block.proofs.Symbols.{token-is, rule-is}
 use Rattle.itemset.proofs.Work.Offers.{after_small, offer-end, offer-token, offer-own, offer-first}
 use Rattle.itemset.proofs.closure.offer_of.Goals as goal
 
 pub returns-then-body-dot : goal.returns-then-body-dot
 returns-then-body-dot c =
-    λ F S.
     let a = c.args in
-    offer-end a.block.now a.item c.body_of-body.result.now c.body_of-body.ensures F a.own.words _ (omega arith) refl refl
+    let b = a.firsts.now.grammar.words.now in
+    offer-end b a.item c.body-body.result.now c.body-body.ensures (firsts_of b) a.own.words (omega arith)
 
-pub returns-then-x-eq1 : goal.returns-then-x-eq1
-returns-then-x-eq1 c =
-    λ F S.
+pub returns-in-Token : goal.returns-in-Token
+returns-in-Token c =
     let a = c.args in
-    let r = c.body_of-body in
-    offer-token a.block.now a.item r.result.now r.ensures F a.own.words _ (omega arith) c.if-x-eq1.true refl refl
+    let b = a.firsts.now.grammar.words.now in
+    let r = c.body-body in
+    let o = token-is (get_or r.result.now (a.item % DOTS) 0) _ c.in-Token.ensures in
+    offer-token b a.item r.result.now r.ensures (firsts_of b) a.own.words (omega arith) o.0
 
-pub first_of-a-requires : goal.first_of-a-requires
-first_of-a-requires c =
+pub of-ahead-requires : goal.of-ahead-requires
+of-ahead-requires c =
     let a = c.args in
-    let r = c.body_of-body in
-    after_small a.block.now a.item r.result.now r.ensures c.requires (omega arith)
+    let g = a.firsts.now.grammar in
+    after_small g.words.now a.item c.body-body.result.now c.body-body.ensures g.good c.requires (omega arith)
 
-pub returns-then-a : goal.returns-then-a
-returns-then-a c =
-    λ F S.
+pub returns-then-ahead : goal.returns-then-ahead
+returns-then-ahead c =
     let a = c.args in
-    let r = c.body_of-body in
-    offer-own a.block.now a.item r.result.now r.ensures F a.own.words _ (omega arith) (even-of _ c.if-x-eq1.false) refl
-    c.first_of-a.result (c.first_of-a.ensures F S) (grind arith) c.join.ensures.words
+    let b = a.firsts.now.grammar.words.now in
+    let r = c.body-body in
+    let h = c.of-ahead in
+    let o = rule-is (get_or r.result.now (a.item % DOTS) 0) c.in-Rule.rule c.in-Rule.ensures in
+    rw o.1
+    (offer-own b a.item r.result.now r.ensures (firsts_of b) a.own.words (omega arith) o.0 h.result h.ensures _ c.if-ahead.true c.join-set.ensures.words)
 
-pub returns : goal.returns
-returns c =
-    λ F S.
+pub returns-else-ahead : goal.returns-else-ahead
+returns-else-ahead c =
     let a = c.args in
-    let r = c.body_of-body in
-    offer-first a.block.now a.item r.result.now r.ensures F a.own.words _ (omega arith) (even-of _ c.if-x-eq1.false) refl
-    c.first_of-a.result (c.first_of-a.ensures F S) c.if-a.false refl
+    let b = a.firsts.now.grammar.words.now in
+    let r = c.body-body in
+    let h = c.of-ahead in
+    let o = rule-is (get_or r.result.now (a.item % DOTS) 0) c.in-Rule.rule c.in-Rule.ensures in
+    rw o.1
+    (offer-first b a.item r.result.now r.ensures (firsts_of b) a.own.words (omega arith) o.0 h.result h.ensures _ c.if-ahead.false refl)

@@ -10,9 +10,9 @@ use Rattle.itemset.proofs.lay.lay.Given as goal
 
 abbrev pub invariant-loop-p : goal.invariant-loop-p
 invariant-loop-p l =
-    Cursors l.block l.kernel l.prods l.n l.p l.k × (length l.out ≡ length l.initial.out)
-    × ((K : List Row) → ForLay l.block l.kernel l.initial.out (contexts_of l.z) K
-    → Writing (lay_of l.block (marks_of l.z) (contexts_of l.z) K) (lay_from (marks_of l.z) (contexts_of l.z) (header.prods l.block) l.p (drop l.k K)) l.rows l.initial.out l.out)
+    Cursors l.grammar.words.now l.kernel l.prods l.n l.p l.k × (length l.out ≡ length l.initial.out)
+    × ((K : List Row) → ForLay l.grammar.words.now l.kernel l.initial.out (contexts_of l.closure) K
+    → Writing (lay_of l.grammar.words.now (marks_of l.closure) (contexts_of l.closure) K) (lay_from (marks_of l.closure) (contexts_of l.closure) (header.prods l.grammar.words.now) l.p (drop l.k K)) l.rows l.initial.out l.out)
 
 abbrev pub decreases-loop-p : goal.decreases-loop-p
 decreases-loop-p l = l.prods + l.n - (l.p + l.k)

@@ -1,108 +1,70 @@
 -- `firsts_hold` compares the marks, then the words of the FIRST sets. Assumes nothing.
 use borrow.Author.Rules.{rules as the_rules}
-use mathlib.Core.Bool.{true, false}
-use mathlib.Core.Logic.{◌↔◌}
-use mathlib.Core.Path.{◌≡◌, ap, ◌∙◌}
-use lib.Dec.{eqb}
-use lib.ListN.{length, take}
-use Rattle.block.specs.Refusal.{refusal_of}
-use Rattle.listed_block.specs.Cases.{FirstsCase}
-use Rattle.listed_block.specs.Rooms.{BLOCK}
-use Rattle.listed_block.proofs.Narrowing.{put-words, case-unput, case-not, read-not, read_by}
-use Rattle.listed_block.proofs.FirstLine.{Line, Read, line-some, count-differs, marks-differ, words-differ, line-by}
-use Rattle.listed_block.proofs.CheckedLaws.{ungood, good-by, rules-by}
+use Rattle.std.proofs.Common.{◌≡◌, ap, subst, ◌∙◌, ◌≤◌, length, arith}
+use Rattle.block.specs.Block.{rules}
+use Rattle.block.specs.Limits.{RULES}
+use Rattle.block.specs.Refusal.{Good}
+use Rattle.block.specs.First.{firsts_of}
+use Rattle.block.specs.Firsts.{AheadsAre}
 use Rattle.words.proofs.Answers.{refuted}
+use Rattle.words.proofs.PartLaws.{cut-not}
+use Rattle.words.proofs.GivenLaws.{case-by, case-not, empty-is}
+use Rattle.listed_block.specs.Rooms.{BLOCK}
+use Rattle.listed_block.proofs.FirstLine.{no-sets, marks-differ, sets-differ, line-by}
 use Rattle.listed_block.proofs.cases.firsts_hold.Goals as goal
 
-pub returns-then-n-given : goal.returns-then-n-given
-returns-then-n-given c =
-    let a = c.args in
-    case-unput BLOCK _ a.words.now _ _ c.part-given.ensures c.narrow-n.ensures.put c.if-n-given.true
+pub returns-in_default-split_part : goal.returns-in_default-split_part
+returns-in_default-split_part c =
+    let i = c.in-Some in
+    case-not BLOCK c.args.words.now i.block.now i.expected.now i.ensures
+    (λ l. cut-not i.expected.now _ _ c.in_default-split_part.ensures.2 l.1)
 
-pub returns-in_default : goal.returns-in_default
-returns-in_default c =
-    let a = c.args in
-    let k = c.check_block in
-    let w = put-words BLOCK _ a.words.now _ _ c.part-given.ensures c.narrow-n.ensures.put c.if-n-given.false in
-    case-not BLOCK _ a.words.now _ _ c.part-given.ensures c.narrow-n.ensures.put
-    (λ l. ungood k.result c.in_default.not-Good (k.ensures.number ∙ ap refusal_of w ∙ l.0.unrefused))
-
-pub returns-then-marks-sizes : goal.returns-then-marks-sizes
-returns-then-marks-sizes c =
-    let read : Read (take c.narrow-n.result c.narrow-n.new.out) c.behind-expected.result.now c.part-marks.result.now c.behind-rest.result.now
-    c.in-Good.sizes.rules c.firsts-sets.result.nullable c.firsts-sets.result.first = let k = c.check_block in
-    let f = c.firsts-sets in
-    record {
-      part = c.part-marks.ensures;
-      behind = c.behind-rest.ensures;
-      good = good-by (take c.narrow-n.result c.narrow-n.new.out) k.result c.in-Good.sizes c.in-Good.is k.ensures.number;
-      count = rules-by (take c.narrow-n.result c.narrow-n.new.out) k.result c.in-Good.sizes c.in-Good.is k.ensures.sizes;
-      stored = f.ensures;
-      long = search the_rules;
-    } in
-    let not_so : (Line (take c.narrow-n.result c.narrow-n.new.out) c.behind-expected.result.now → ⊥)
-    → (false ≡ true) ↔ FirstsCase c.args.words.now = λ f. read-not BLOCK _ c.args.words.now _ _ c.part-given.ensures c.narrow-n.ensures.put
-    c.behind-expected.result.now c.behind-expected.ensures c.if-n-given.false f in
-    not_so (count-differs (read) c.if-marks-sizes.true)
+pub returns-in_default-split_part-2 : goal.returns-in_default-split_part-2
+returns-in_default-split_part-2 c =
+    let i = c.in-Some in
+    let m = c.in-Some-split_part in
+    case-not BLOCK c.args.words.now i.block.now i.expected.now i.ensures
+    (λ l. no-sets i.block.now i.expected.now m.marks.now m.rest.now m.ensures.2 c.in_default-split_part-2.ensures.2 l.1)
 
 pub returns-then-not-marks_hold : goal.returns-then-not-marks_hold
 returns-then-not-marks_hold c =
-    let read : Read (take c.narrow-n.result c.narrow-n.new.out) c.behind-expected.result.now c.part-marks.result.now c.behind-rest.result.now
-    c.in-Good.sizes.rules c.firsts-sets.result.nullable c.firsts-sets.result.first = let k = c.check_block in
-    let f = c.firsts-sets in
-    record {
-      part = c.part-marks.ensures;
-      behind = c.behind-rest.ensures;
-      good = good-by (take c.narrow-n.result c.narrow-n.new.out) k.result c.in-Good.sizes c.in-Good.is k.ensures.number;
-      count = rules-by (take c.narrow-n.result c.narrow-n.new.out) k.result c.in-Good.sizes c.in-Good.is k.ensures.sizes;
-      stored = f.ensures;
-      long = search the_rules;
-    } in
-    let not_so : (Line (take c.narrow-n.result c.narrow-n.new.out) c.behind-expected.result.now → ⊥)
-    → (false ≡ true) ↔ FirstsCase c.args.words.now = λ f. read-not BLOCK _ c.args.words.now _ _ c.part-given.ensures c.narrow-n.ensures.put
-    c.behind-expected.result.now c.behind-expected.ensures c.if-n-given.false f in
-    let m = c.marks_hold in
-    not_so (marks-differ (read) c.if-marks-sizes.false (refuted m.result m.ensures c.if-not-marks_hold.true))
+    let i = c.in-Some in
+    let m = c.in-Some-split_part in
+    let w : c.new.result.grammar.words.now ≡ i.block.now = c.new.ensures ∙ c.in-Ok.ensures.words in
+    let r : AheadsAre c.new.result.rules (firsts_of i.block.now) = subst (λ b. AheadsAre c.new.result.rules (firsts_of b)) w c.new.result.right in
+    let n : c.rules.result ≡ rules i.block.now = c.rules.ensures ∙ ap rules w in
+    let long : length c.new.result.rules ≡ RULES = search the_rules in
+    let few : c.rules.result ≤ RULES = omega (arith, c.rules.ensures, c.new.result.grammar.placed.rules-most) in
+    case-not BLOCK c.args.words.now i.block.now i.expected.now i.ensures
+    (λ l. marks-differ i.block.now i.expected.now m.marks.now m.rest.now m.ensures.2 c.new.result.rules r long c.rules.result n few
+    (refuted c.marks_hold.result c.marks_hold.ensures c.if-not-marks_hold.true) l.1)
 
-pub returns-then-not-begins : goal.returns-then-not-begins
-returns-then-not-begins c =
-    let read : Read (take c.narrow-n.result c.narrow-n.new.out) c.behind-expected.result.now c.part-marks.result.now c.behind-rest.result.now
-    c.in-Good.sizes.rules c.firsts-sets.result.nullable c.firsts-sets.result.first = let k = c.check_block in
-    let f = c.firsts-sets in
-    record {
-      part = c.part-marks.ensures;
-      behind = c.behind-rest.ensures;
-      good = good-by (take c.narrow-n.result c.narrow-n.new.out) k.result c.in-Good.sizes c.in-Good.is k.ensures.number;
-      count = rules-by (take c.narrow-n.result c.narrow-n.new.out) k.result c.in-Good.sizes c.in-Good.is k.ensures.sizes;
-      stored = f.ensures;
-      long = search the_rules;
-    } in
-    let not_so : (Line (take c.narrow-n.result c.narrow-n.new.out) c.behind-expected.result.now → ⊥)
-    → (false ≡ true) ↔ FirstsCase c.args.words.now = λ f. read-not BLOCK _ c.args.words.now _ _ c.part-given.ensures c.narrow-n.ensures.put
-    c.behind-expected.result.now c.behind-expected.ensures c.if-n-given.false f in
-    let w = c.begins in
-    not_so (words-differ (read) (refuted w.result w.ensures c.if-not-begins.true))
+pub returns-then-not-sets_hold : goal.returns-then-not-sets_hold
+returns-then-not-sets_hold c =
+    let i = c.in-Some in
+    let m = c.in-Some-split_part in
+    let s = c.in-Some-split_part-2 in
+    let w : c.new.result.grammar.words.now ≡ i.block.now = c.new.ensures ∙ c.in-Ok.ensures.words in
+    let r : AheadsAre c.new.result.rules (firsts_of i.block.now) = subst (λ b. AheadsAre c.new.result.rules (firsts_of b)) w c.new.result.right in
+    let n : c.rules.result ≡ rules i.block.now = c.rules.ensures ∙ ap rules w in
+    let long : length c.new.result.rules ≡ RULES = search the_rules in
+    let few : c.rules.result ≤ RULES = omega (arith, c.rules.ensures, c.new.result.grammar.placed.rules-most) in
+    case-not BLOCK c.args.words.now i.block.now i.expected.now i.ensures
+    (λ l. sets-differ i.block.now i.expected.now m.marks.now m.rest.now m.ensures.2 c.new.result.rules r long c.rules.result n few
+    s.sets.now s.behind.now s.ensures.2 (refuted c.sets_hold.result c.sets_hold.ensures c.if-not-sets_hold.true) l.1)
 
 pub returns : goal.returns
 returns c =
-    let read : Read (take c.narrow-n.result c.narrow-n.new.out) c.behind-expected.result.now c.part-marks.result.now c.behind-rest.result.now
-    c.in-Good.sizes.rules c.firsts-sets.result.nullable c.firsts-sets.result.first = let k = c.check_block in
-    let f = c.firsts-sets in
-    record {
-      part = c.part-marks.ensures;
-      behind = c.behind-rest.ensures;
-      good = good-by (take c.narrow-n.result c.narrow-n.new.out) k.result c.in-Good.sizes c.in-Good.is k.ensures.number;
-      count = rules-by (take c.narrow-n.result c.narrow-n.new.out) k.result c.in-Good.sizes c.in-Good.is k.ensures.sizes;
-      stored = f.ensures;
-      long = search the_rules;
-    } in
-    let so-by : ((eqb (length c.behind.result.now) 0) ≡ true) ↔ Line (take c.narrow-n.result c.narrow-n.new.out) c.behind-expected.result.now
-    → ((eqb (length c.behind.result.now) 0) ≡ true) ↔ FirstsCase c.args.words.now = λ i. read_by BLOCK _ c.args.words.now _ _ c.part-given.ensures c.narrow-n.ensures.put
-    c.behind-expected.result.now c.behind-expected.ensures c.if-n-given.false
-    (λ t. line-some (take c.narrow-n.result c.narrow-n.new.out) c.behind-expected.result.now (i.0 t)) i in
-    let m = c.marks_hold in
-    let w = c.begins in
-    so-by
-    (line-by (read) c.behind.result.now c.behind.ensures c.if-marks-sizes.false
-    (m.ensures.0 c.if-not-marks_hold.false)
-    (w.ensures.0 c.if-not-begins.false))
+    let i = c.in-Some in
+    let m = c.in-Some-split_part in
+    let s = c.in-Some-split_part-2 in
+    let w : c.new.result.grammar.words.now ≡ i.block.now = c.new.ensures ∙ c.in-Ok.ensures.words in
+    let g : Good i.block.now = subst Good c.in-Ok.ensures.words c.in-Ok.grammar.good in
+    let r : AheadsAre c.new.result.rules (firsts_of i.block.now) = subst (λ b. AheadsAre c.new.result.rules (firsts_of b)) w c.new.result.right in
+    let n : c.rules.result ≡ rules i.block.now = c.rules.ensures ∙ ap rules w in
+    let long : length c.new.result.rules ≡ RULES = search the_rules in
+    let few : c.rules.result ≤ RULES = omega (arith, c.rules.ensures, c.new.result.grammar.placed.rules-most) in
+    let so = line-by i.block.now i.expected.now m.marks.now m.rest.now m.ensures.2 c.new.result.rules r long c.rules.result n few
+    s.sets.now s.behind.now s.ensures.2 (c.marks_hold.ensures.0 c.if-not-marks_hold.false) (c.sets_hold.ensures.0 c.if-not-sets_hold.false)
+    (empty-is s.behind.now c.is_empty.result c.is_empty.ensures) in
+    case-by BLOCK c.args.words.now i.block.now i.expected.now i.ensures (λ t. (g, so.0 t), λ l. so.1 l.1)

@@ -1,13 +1,12 @@
 -- `run_holds` reads the block, and its tables decide. Assumes nothing.
-use Rattle.listed_block.proofs.Narrowing.{case-unput, read_by}
-use Rattle.listed_machine.proofs.TablesLaws.{tables-some}
+use Rattle.words.proofs.GivenLaws.{case-none, case-by}
+use Rattle.listed_block.specs.Rooms.{BLOCK}
 use Rattle.listed_machine.proofs.cases.run_holds.Goals as goal
 
-pub returns-then-n-block : goal.returns-then-n-block
-returns-then-n-block c = case-unput 16384 _ c.args.words.now _ _ c.part-block.ensures c.narrow-n.ensures.put c.if-n-block.true
+pub returns-in_default : goal.returns-in_default
+returns-in_default c = case-none BLOCK c.args.words.now c.in_default.ensures
 
 pub returns : goal.returns
 returns c =
-    let b = c.behind in
-    read_by 16384 _ c.args.words.now _ _ c.part-block.ensures c.narrow-n.ensures.put b.result.now b.ensures c.if-n-block.false
-    (λ t. tables-some (c.tables_hold.ensures.0 t)) c.tables_hold.ensures
+    let i = c.in-Some in
+    case-by BLOCK c.args.words.now i.block.now i.rest.now i.ensures c.tables_hold.ensures

@@ -1,32 +1,16 @@
--- `acts_is` compares what the word of the action tells. Assumes nothing.
+-- `acts_is` compares the number of a refusal, or the action. Assumes nothing.
 use mathlib.Core.Bool.{true}
+use mathlib.Core.List.{[], ◌∷◌}
 use mathlib.Core.Logic.{◌↔◌}
 use mathlib.Core.Path.{◌≡◌, sym, subst}
 use Rattle.listed_statetable.specs.Queries.{ActsTold}
-use Rattle.listed_statetable.proofs.Cells.{told-error, told-shift, told-reduce, told-accept, told-refused}
+use Rattle.listed_statetable.proofs.Cells.{told-refused}
 use Rattle.listed_statetable.proofs.queries.acts_is.Goals as goal
 
-pub returns-in-Error : goal.returns-in-Error
-returns-in-Error c =
+pub returns-in-Err : goal.returns-in-Err
+returns-in-Err c =
     let a = c.args in
-    subst (λ x. (c.is_pair.result ≡ true) ↔ ActsTold x a.number a.word) (sym c.in-Error.is) (told-error a.number a.word c.is_pair.ensures)
-
-pub returns-in-Shift : goal.returns-in-Shift
-returns-in-Shift c =
-    let a = c.args in
-    subst (λ x. (c.is_coded.result ≡ true) ↔ ActsTold x a.number a.word) (sym c.in-Shift.is) (told-shift a.number a.word c.in-Shift.s c.is_coded.ensures)
-
-pub returns-in-Reduce : goal.returns-in-Reduce
-returns-in-Reduce c =
-    let a = c.args in
-    subst (λ x. (c.is_coded-in-Reduce.result ≡ true) ↔ ActsTold x a.number a.word) (sym c.in-Reduce.is) (told-reduce a.number a.word c.in-Reduce.p c.is_coded-in-Reduce.ensures)
-
-pub returns-in-Accept : goal.returns-in-Accept
-returns-in-Accept c =
-    let a = c.args in
-    subst (λ x. (c.is_pair-in-Accept.result ≡ true) ↔ ActsTold x a.number a.word) (sym c.in-Accept.is) (told-accept a.number a.word c.is_pair-in-Accept.ensures)
-
-pub returns-in-Refused : goal.returns-in-Refused
-returns-in-Refused c =
-    let a = c.args in
-    subst (λ x. (c.is_pair-in-Refused.result ≡ true) ↔ ActsTold x a.number a.word) (sym c.in-Refused.is) (told-refused a.number a.word c.in-Refused.n c.is_pair-in-Refused.ensures)
+    let i = c.in-Err in
+    let p = c.is_pair in
+    subst (λ x. (p.result ≡ true) ↔ ActsTold x a.number a.word) (sym i.is)
+    (told-refused a.number a.word i.refusal (subst (λ n. (p.result ≡ true) ↔ (a.number ∷ a.word ∷ [] ≡ n ∷ 0 ∷ [])) c.number.ensures p.ensures))

@@ -1,28 +1,22 @@
 -- `asked_holds` reads the block and the count of states. Assumes nothing.
-use Prim.Native.Nat.{◌≤◌}
-use native.Mathlib.Omega.{arith}
-use lib.ListN.{length}
-use Rattle.listed_block.proofs.Narrowing.{case-unput, read-not, read_by}
+use Rattle.std.proofs.Common.{◌≡◌, ◌≤◌, false, sym, length, arith}
+use borrow.Author.Tests.{eqb-true, eqb-false}
+use lib.Dec.{eqb}
+use Rattle.listed_block.specs.Rooms.{BLOCK}
+use Rattle.words.proofs.GivenLaws.{case-by, case-not}
 use Rattle.listed_statetable.proofs.Heads.{table-some, table-by}
 use Rattle.listed_statetable.proofs.queries.asked_holds.Goals as goal
 
-pub returns-then-n-block : goal.returns-then-n-block
-returns-then-n-block c =
-    let a = c.args in
-    case-unput 16384 _ a.words.now _ _ c.part-block.ensures c.narrow-n.ensures.put c.if-n-block.true
-
-pub returns-then-rest-eq0 : goal.returns-then-rest-eq0
-returns-then-rest-eq0 c =
-    let a = c.args in
-    let b = c.behind-rest in
-    read-not 16384 _ a.words.now _ _ c.part-block.ensures c.narrow-n.ensures.put b.result.now b.ensures c.if-n-block.false
-    (λ g. omega (arith, table-some a.kind _ b.result.now g, c.if-rest-eq0.true))
+pub returns-then-is_empty : goal.returns-then-is_empty
+returns-then-is_empty c =
+    let i = c.in-Some in
+    case-not BLOCK c.args.words.now i.block.now i.rest.now i.ensures
+    (λ g. omega (arith, table-some c.args.kind _ i.rest.now g, eqb-true _ _ (sym c.if-is_empty.ensures)))
 
 pub returns : goal.returns
 returns c =
-    let a = c.args in
-    let b = c.behind-rest in
+    let i = c.in-Some in
     let s = c.index in
-    let l : 1 ≤ length b.result.now = omega (arith, c.if-rest-eq0.false) in
-    read_by 16384 _ a.words.now _ _ c.part-block.ensures c.narrow-n.ensures.put b.result.now b.ensures c.if-n-block.false (λ t. l)
-    (table-by a.kind _ b.result.now s.result s.ensures l c.word_holds.ensures)
+    let l : 1 ≤ length i.rest.now = omega (arith, eqb-false _ _ (sym c.if-is_empty.ensures)) in
+    case-by BLOCK c.args.words.now i.block.now i.rest.now i.ensures
+    (table-by c.args.kind _ i.rest.now s.result s.ensures l c.word_holds.ensures)

@@ -1,4 +1,4 @@
-use Rattle.std.proofs.Common.{List, ◌≡◌, ℕ, ◌-◌, length, drop}
+use Rattle.std.proofs.Common.{List, ◌≡◌, ℕ, length, drop}
 use Rattle.pager.specs.Lists.{find}
 use Rattle.pager.specs.Place.{State}
 use Rattle.pager.specs.Building.{Marks}
@@ -7,7 +7,4 @@ use Rattle.pager.proofs.build.marked_from.Given as goal
 
 abbrev pub invariant-loop-s : goal.invariant-loop-s
 invariant-loop-s l =
-    (N : ℕ) (ss : List State) (z : List ℕ) → Marks N ss z l.marks → l.states ≡ length ss → find unclosed l.from (drop l.from ss) ≡ find unclosed l.s (drop l.s ss)
-
-abbrev pub decreases-loop-s : goal.decreases-loop-s
-decreases-loop-s l = l.states - l.s
+    (N : ℕ) (ss : List State) (z : List ℕ) → Marks N ss z l.marks → l.fn.states ≡ length ss → find unclosed l.from (drop l.from ss) ≡ find unclosed l.s (drop l.s ss)

@@ -1,71 +1,68 @@
-use Rattle.std.proofs.Common.{arith, add-one, refl, ◌∙◌}
+use Rattle.std.proofs.Common.{add-one, refl, ◌∙◌}
 use Rattle.pager.proofs.Rooms.{scratch-refl, scratch-trans}
-use Rattle.pager.proofs.Step.{closed-rows, rule4}
-use Rattle.pager.proofs.Walking.{turn, sight-low, sight-at, for-one, site_of, walked_none, walked_next, walked_all, walked-stuck}
+use Rattle.std.proofs.lemmas.Result.{err_from_is_err_and}
+use Rattle.pager.proofs.Step.{closed-rows}
+use Rattle.pager.proofs.Walking.{sight-low, sight-all, sight-at, for-one, site_of, walked_none, walked_next, walked_all, walked-refused}
 use Rattle.pager.proofs.build.place_all.Goals as goal
 
--- src/build.rt:131:18
 pub sights_of-sights-requires : goal.sights_of-sights-requires
 sights_of-sights-requires c = (_, closed-rows c.requires.1)
 
--- src/build.rt:134:5
-pub loop-i-init : goal.loop-i-init
-loop-i-init c = (refl, refl, refl, refl, scratch-refl _ _, λ s G. walked_none _ _ _ s G)
+pub loop-symbol-init : goal.loop-symbol-init
+loop-symbol-init c = (refl, refl, refl, refl, scratch-refl _ _, λ s G. walked_none _ _ _ s G)
 
--- src/build.rt:135:17
-pub offset_bounds-sights-i : goal.offset_bounds-sights-i
-offset_bounds-sights-i c =
-    let G = c.requires.1 in
-    let S = c.sights_of-sights.ensures _ (closed-rows G) in
-    record { fits = omega (arith, S.count, (rule4 G).sights.limit, c.loop-i-test.true) }
+pub as_slice-symbol-items-requires : goal.as_slice-symbol-items-requires
+as_slice-symbol-items-requires c = (_, c.sights_of-sights.ensures _ (closed-rows c.requires.1))
 
--- src/build.rt:135:17
-pub bounds-sights-i : goal.bounds-sights-i
-bounds-sights-i c =
-    let G = c.requires.1 in
-    let S = c.sights_of-sights.ensures _ (closed-rows G) in
-    omega (arith, S.count, (rule4 G).sights.limit, c.loop-i-test.true)
-
--- src/build.rt:136:9
-pub place_edge-count-requires : goal.place_edge-count-requires
-place_edge-count-requires c =
-    let l = c.loop-i in
+pub place_edge-requires : goal.place_edge-requires
+place_edge-requires c =
+    let l = c.loop-symbol in
     let s = c.requires.0 in
     let G = c.requires.1 in
-    let S = c.sights_of-sights.ensures _ (closed-rows G) in
-    let T = turn _ _ _ s (l.invariant.5 s G) c.if-count-eq0.true in
-    let i = sight-low S l.i c.loop-i-test.true in
-    (site_of _ _ _ s T, for-one _ _ _ s G T i _ (sight-at S l.i i) _ l.invariant.4.size)
+    let S = c.as_slice-symbol-items.ensures _ (c.sights_of-sights.ensures _ (closed-rows G)) in
+    let T = l.invariant.5 s G in
+    let i = sight-low S l.symbol-index c.loop-symbol-test.true in
+    (site_of _ _ _ s T, for-one _ _ _ s G T i _ (sight-at S l.symbol-index) _ l.invariant.4.size)
 
--- src/build.rt:134:5
-pub loop-i-preserved : goal.loop-i-preserved
-loop-i-preserved c =
-    let l = c.loop-i in
-    let p = c.place_edge-count in (
+pub loop-symbol-preserved : goal.loop-symbol-preserved
+loop-symbol-preserved c =
+    let l = c.loop-symbol in
+    let p = c.place_edge in (
       p.auto.items ∙ l.invariant.0,
       p.auto.spans ∙ l.invariant.1,
       p.auto.edges ∙ l.invariant.2,
       p.auto.marks ∙ l.invariant.3,
-      scratch-trans l.invariant.4 p.ensures.kernel,
+      scratch-trans l.invariant.4 c.in_ok-count.ensures.kernel,
       λ s G.
-          let S = c.sights_of-sights.ensures _ (closed-rows G) in
-          let T = turn _ _ _ s (l.invariant.5 s G) c.if-count-eq0.true in
-          let i = sight-low S l.i c.loop-i-test.true in
-          walked_next _ _ _ s G T i _ (sight-at S l.i i) _ (add-one l.i)
-          (p.ensures.built (site_of _ _ _ s T) (for-one _ _ _ s G T i _ (sight-at S l.i i) _ l.invariant.4.size)),
+          let S = c.as_slice-symbol-items.ensures _ (c.sights_of-sights.ensures _ (closed-rows G)) in
+          let T = l.invariant.5 s G in
+          let i = sight-low S l.symbol-index c.loop-symbol-test.true in
+          walked_next _ _ _ s G T i _ (sight-at S l.symbol-index) _ (add-one l.symbol-index)
+          (c.in_ok-count.ensures.built (site_of _ _ _ s T) (for-one _ _ _ s G T i _ (sight-at S l.symbol-index) _ l.invariant.4.size)),
     )
 
--- src/build.rt:113:1
-pub returns-else-count-eq0 : goal.returns-else-count-eq0
-returns-else-count-eq0 c = record { built = λ s G. walked-stuck _ _ _ s (c.loop-i.invariant.5 s G) c.if-count-eq0.false; kernel = c.loop-i.invariant.4 }
-
--- src/build.rt:113:1
-pub returns-after-loop-i : goal.returns-after-loop-i
-returns-after-loop-i c =
-    let l = c.loop-i in
+pub returns-in_err-count : goal.returns-in_err-count
+returns-in_err-count c =
+    let l = c.loop-symbol in
+    let r = c.from_residual in
+    let p = err_from_is_err_and r.result r.ensures.1 in
     record {
       built = λ s G.
-          let S = c.sights_of-sights.ensures _ (closed-rows G) in
-          walked_all _ _ _ s (l.invariant.5 s G) (omega (arith, S.count, c.loop-i-test.false));
+          let S = c.as_slice-symbol-items.ensures _ (c.sights_of-sights.ensures _ (closed-rows G)) in
+          let T = l.invariant.5 s G in
+          let i = sight-low S l.symbol-index c.loop-symbol-test.true in
+          rw (p.1, p.2)
+          (walked-refused _ _ _ s G T i _ (sight-at S l.symbol-index) _ _ _ _ _
+          (c.in_err-count.ensures.built (site_of _ _ _ s T) (for-one _ _ _ s G T i _ (sight-at S l.symbol-index) _ l.invariant.4.size)));
+      kernel = scratch-trans l.invariant.4 c.in_err-count.ensures.kernel;
+    }
+
+pub returns : goal.returns
+returns c =
+    let l = c.loop-symbol in
+    record {
+      built = λ s G.
+          let S = c.as_slice-symbol-items.ensures _ (c.sights_of-sights.ensures _ (closed-rows G)) in
+          walked_all _ _ _ s (l.invariant.5 s G) (sight-all S l.symbol-index c.loop-symbol-test.false);
       kernel = l.invariant.4;
     }

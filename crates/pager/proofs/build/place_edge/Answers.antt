@@ -1,7 +1,7 @@
-use Rattle.std.proofs.Common.{arith, add-one, sym, ◌∙◌, length-take-le}
+use Rattle.std.proofs.Common.{arith, add-one, sym, length-take-le}
+use Rattle.std.proofs.lemmas.Result.{err_from_is_err_and}
 use Rattle.pager.proofs.Step.{for-goto, view_of, symbol-small, goto-few, goto-fits, goto-scratch, place-ready, draw-needs, drawn, not-drawn}
 use Rattle.pager.proofs.build.place_edge.Goals as goal
-use Rattle.pager.proofs.build.place_edge.Goals.{then-p-eq0, else-p-eq0}
 
 -- src/build.rt:104:9
 pub goto_kernel-k-requires : goal.goto_kernel-k-requires
@@ -40,33 +40,39 @@ slice_bounds-place-end-2 c =
     sym (length-take-le _ _ (goto-fits G _ _ W))
 
 -- src/build.rt:105:9
-pub place-p-requires : goal.place-p-requires
-place-p-requires c =
+pub place-requires : goal.place-requires
+place-requires c =
     let G = c.requires.1 in
     let q = c.goto_kernel-k in
     let W = q.ensures _ (for-goto G.gotos) in
     (view_of G, place-ready G _ _ W _ (add-one c.args.x))
 
--- src/build.rt:107:9
 pub draw_edge-requires : goal.draw_edge-requires
 draw_edge-requires c =
     let G = c.requires.1 in
     let q = c.goto_kernel-k in
     let W = q.ensures _ (for-goto G.gotos) in
-    let p = c.place-p in
-    let R = p.ensures (view_of G) (place-ready G _ _ W _ (add-one c.args.x)) in
-    draw-needs G _ _ _ _ R c.if-p-eq0.true
+    let R = c.in_ok-put.ensures (view_of G) (place-ready G _ _ W _ (add-one c.args.x)) in
+    draw-needs G _ _ _ _ R
 
--- src/build.rt:85:1
-pub returns : goal.returns
-returns c =
+pub returns-in_err-put : goal.returns-in_err-put
+returns-in_err-put c =
     let q = c.goto_kernel-k in
-    let p = c.place-p in
+    let r = c.from_residual in
+    let p = err_from_is_err_and r.result r.ensures.1 in
     record {
       built = λ s G.
           let W = q.ensures _ (for-goto G.gotos) in
-          let R = p.ensures (view_of G) (place-ready G _ _ W _ (add-one c.args.x)) in
-          elim c.if-p-eq0.branch [ then-p-eq0 w ↦ drawn G _ _ _ _ R w.if-p-eq0.true _ (w.edges-is ∙ w.draw_edge.ensures) | else-p-eq0 w ↦ not-drawn G _ _ _ _ R w.if-p-eq0.false _ w.edges-is ];
-      kernel = let G = c.requires.1 in
-          goto-scratch G _ _ (q.ensures _ (for-goto G.gotos));
+          rw (p.1, p.2) (not-drawn G _ _ _ _ (c.in_err-put.ensures (view_of G) (place-ready G _ _ W _ (add-one c.args.x))));
+      kernel = let G = c.requires.1 in goto-scratch G _ _ (q.ensures _ (for-goto G.gotos));
+    }
+
+pub returns : goal.returns
+returns c =
+    let q = c.goto_kernel-k in
+    record {
+      built = λ s G.
+          let W = q.ensures _ (for-goto G.gotos) in
+          drawn G _ _ _ _ (c.in_ok-put.ensures (view_of G) (place-ready G _ _ W _ (add-one c.args.x))) _ c.draw_edge.ensures;
+      kernel = let G = c.requires.1 in goto-scratch G _ _ (q.ensures _ (for-goto G.gotos));
     }

@@ -1,7 +1,6 @@
 -- `call::room_short` meets its contract. Assumes nothing.
-use Rattle.std.proofs.Common.{ap, ◌∙◌, subst, ◌+◌, ◌*◌, ◌<◌, ◌≤◌, ltb}
+use Rattle.std.proofs.Common.{ap, ◌∙◌, ℕ, ◌*◌, ltb}
 use Rattle.block.specs.Limits.{ITEM}
-use Rattle.block.specs.declared.check.Sizes.{Sizes}
 use Rattle.pager.specs.Call.{room_short}
 use Rattle.pager.proofs.CallLaws.{here, past, next, last}
 use Rattle.pager.proofs.call.room_short.Goals as goal
@@ -33,31 +32,28 @@ returns-then-spans-room c = past _ _ _ (past _ _ _ (past _ _ _ (past _ _ _ (past
 pub returns-then-edges-room : goal.returns-then-edges-room
 unfolding room_short
 returns-then-edges-room c =
-    let z = c.sizes_of-z in
-    past _ _ _ (past _ _ _ (past _ _ _ (past _ _ _ (past _ _ _ (past _ _ _ (here _ _ _ (subst (λ (y : Sizes). c.args.edges < c.args.room.states * (y.rules + y.tokens)) z.ensures c.if-edges-room.true)))))))
+    past _ _ _ (past _ _ _ (past _ _ _ (past _ _ _ (past _ _ _ (past _ _ _ (here _ _ _ (rw (c.rules.ensures, c.tokens.ensures) at c.if-edges-room.true)))))))
 
 pub returns-then-marks-room : goal.returns-then-marks-room
 unfolding room_short
 returns-then-marks-room c = past _ _ _ (past _ _ _ (past _ _ _ (past _ _ _ (past _ _ _ (past _ _ _ (past _ _ _ (here _ _ _ c.if-marks-room.true)))))))
 
-pub returns-then-closed-z : goal.returns-then-closed-z
+pub returns-then-closed-symbols : goal.returns-then-closed-symbols
 unfolding room_short
-returns-then-closed-z c =
-    let z = c.sizes_of-z in
-    past _ _ _ (past _ _ _ (past _ _ _ (past _ _ _ (past _ _ _ (past _ _ _ (past _ _ _ (past _ _ _ (here _ _ _ (subst (λ (y : Sizes). c.args.closed < ITEM * (y.symbols + y.prods)) z.ensures c.if-closed-z.true)))))))))
+returns-then-closed-symbols c =
+    past _ _ _ (past _ _ _ (past _ _ _ (past _ _ _ (past _ _ _ (past _ _ _ (past _ _ _ (past _ _ _ (here _ _ _ (rw (c.symbols.ensures, c.productions.ensures) at c.if-closed-symbols.true)))))))))
 
 pub returns : goal.returns
 unfolding room_short
 returns c =
-    let z = c.sizes_of-z in
-    ap (λ (y : Sizes). ltb c.args.kernel (ITEM * y.symbols)) z.ensures
+    ap (λ (y : ℕ). ltb c.args.kernel (ITEM * y)) c.symbols-2.ensures
     ∙ next _ _ _ _ c.if-room-lt1.false
     (next _ _ _ _ c.if-room-gt-STATES.false
     (next _ _ _ _ c.if-room-lt1-2.false
     (next _ _ _ _ c.if-room-gt-ITEMS.false
     (next _ _ _ _ c.if-items-room.false
     (next _ _ _ _ c.if-spans-room.false
-    (next _ _ _ _ (subst (λ (y : Sizes). c.args.room.states * (y.rules + y.tokens) ≤ c.args.edges) z.ensures c.if-edges-room.false)
+    (next _ _ _ _ (rw (c.rules.ensures, c.tokens.ensures) at c.if-edges-room.false)
     (next _ _ _ _ c.if-marks-room.false
-    (next _ _ _ _ (subst (λ (y : Sizes). ITEM * (y.symbols + y.prods) ≤ c.args.closed) z.ensures c.if-closed-z.false)
+    (next _ _ _ _ (rw (c.symbols.ensures, c.productions.ensures) at c.if-closed-symbols.false)
     (last _ _)))))))))

@@ -1,6 +1,7 @@
 -- `pager::collect::collect_parts` meets its contract. Assumes nothing.
-use Rattle.std.proofs.Common.{ap, ◌∙◌, []}
+use Rattle.std.proofs.Common.{sym, ap, ◌∙◌, []}
 use Rattle.pager.specs.Memory.{pad}
+use Rattle.pager.proofs.Collecting.Clear.{clear-zeros}
 use Rattle.pager.proofs.Collecting.Parts.{parts-numbered, parts-kept}
 use Rattle.pager.proofs.collect.collect_parts.Goals as goal
 
@@ -34,5 +35,5 @@ returns c =
     record {
       items_left = rw k at q;
       edges_are = rw k at h;
-      marks-are = c.clear.ensures ∙ ap (λ n. pad n []) r;
+      marks-are = c.fill.ensures.after (λ y e. e) ∙ sym (clear-zeros _ []) ∙ ap (λ n. pad n []) r;
     }

@@ -1,5 +1,5 @@
--- `pager::collect::pack_edges` meets its contract. Assumes nothing.
-use Rattle.std.proofs.Common.{List, ◌≡◌, ◌/◌, ◌-◌, ◌≤◌, length}
+-- The edges of the marked ones of the first s states are moved down. Assumes nothing.
+use Rattle.std.proofs.Common.{List, ◌≤◌, length}
 use Rattle.pager.specs.Place.{State}
 use Rattle.pager.specs.Collecting.{flags_of, EdgePart, Numbered}
 use Rattle.pager.proofs.Collecting.PackEdges.{EdgePacking}
@@ -7,10 +7,5 @@ use Rattle.pager.proofs.collect.pack_edges.Given as goal
 
 abbrev pub invariant-loop-s : goal.invariant-loop-s
 invariant-loop-s l =
-    (l.n ≡ length l.marks / 2)
-    × (l.s ≤ l.n)
-    × (length l.edges ≡ length l.initial.edges)
+    (l.to ≤ length l.edges)
     × ((ss : List State) → EdgePart l.width ss l.initial.edges l.marks → Numbered ss l.marks → EdgePacking (flags_of l.marks) ss l.edges l.to l.s)
-
-abbrev pub decreases-loop-s : goal.decreases-loop-s
-decreases-loop-s l = l.n - l.s

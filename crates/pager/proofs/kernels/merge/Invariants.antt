@@ -1,6 +1,5 @@
--- `merge` meets its contract: the first i contexts are joined. Assumes nothing.
-use Rattle.std.proofs.Common.{not, List, ◌≡◌, ℕ, ◌+◌, ◌*◌, ◌/◌, ◌≤◌, ◌-◌, length, take}
-use Rattle.block.specs.Limits.{ITEM}
+-- The first i contexts are joined. Assumes nothing.
+use Rattle.std.proofs.Common.{not, List, ◌≡◌, ℕ, length, take}
 use Rattle.itemset.specs.Rows.{Row, same_rows}
 use Rattle.pager.specs.Weak.{union}
 use Rattle.pager.specs.RowWords.{RowWords, RowsAt}
@@ -8,9 +7,5 @@ use Rattle.pager.proofs.kernels.merge.Given as goal
 
 abbrev pub invariant-loop-i : goal.invariant-loop-i
 invariant-loop-i l =
-    (l.i ≤ l.n) × (l.n ≡ length l.b / ITEM) × (ITEM * l.at + length l.b ≤ length l.initial.items) × (length l.items ≡ length l.initial.items)
-    × ((before : List ℕ) (K : List Row) (behind : List ℕ) (L : List Row) → RowsAt l.at before K behind l.initial.items → RowWords l.b L → length K ≡ length L
-    → RowsAt l.at before (union K (take l.i L)) behind l.items × (l.grew ≡ not (same_rows (union K (take l.i L)) K)))
-
-abbrev pub decreases-loop-i : goal.decreases-loop-i
-decreases-loop-i l = l.n - l.i
+    (before : List ℕ) (K : List Row) (behind : List ℕ) (L : List Row) → RowsAt l.at before K behind l.initial.items → RowWords l.b L → length K ≡ length L
+    → RowsAt l.at before (union K (take l.i L)) behind l.items × (l.grew ≡ not (same_rows (union K (take l.i L)) K))

@@ -1,33 +1,19 @@
--- `pair_blocks` meets its contract: it is the test `apart`, denied. Assumes nothing.
+-- The test is `apart`, denied. Assumes nothing.
+use Rattle.std.proofs.Common.{◌≡◌, refl, ap, not, ◌||◌, rules}
 use Rattle.block.specs.Sets.{meets}
-use Rattle.pager.proofs.RowTests.{or-first, or-second, pair-yes, pair-no}
+use Rattle.pager.specs.Weak.{apart}
+use Rattle.pager.specs.RowWords.{apart_at, context_at}
 use Rattle.pager.proofs.kernels.pair_blocks.Goals as goal
-use Rattle.pager.proofs.kernels.pair_blocks.Goals.{then-meets, else-meets, then-meets-3, else-meets-3}
 
 pub returns-after-meets-3 : goal.returns-after-meets-3
+unfolding apart_at apart context_at
 returns-after-meets-3 c =
-    let a = c.args in
-    let ai = c.load-ai in
-    let aj = c.load-aj in
-    let bi = c.load-bi in
-    let bj = c.load-bj in
-    let m = c.meets in
-    pair-yes a.a.now a.b.now a.i a.j ai.result.words aj.result.words bi.result.words bj.result.words ai.ensures aj.ensures bi.ensures bj.ensures
-    c.if-meets.value
-    (elim c.if-meets.branch [ then-meets w ↦ or-first (meets ai.result.words bj.result.words) (meets aj.result.words bi.result.words) w.value-is w.if-meets.true m.ensures.words | else-meets w ↦ or-second (meets ai.result.words bj.result.words) (meets aj.result.words bi.result.words) w.value-is w.if-meets.false m.ensures.words w.meets-else-meets.ensures.words ])
-    c.if-meets-2.true
-    c.if-meets-3.result
-    (elim c.if-meets-3.branch [ then-meets-3 w ↦ or-first (meets ai.result.words aj.result.words) (meets bi.result.words bj.result.words) w.result-is w.if-meets-3.true c.meets-then-meets-2.ensures.words | else-meets-3 w ↦ or-second (meets ai.result.words aj.result.words) (meets bi.result.words bj.result.words) w.result-is w.if-meets-3.false c.meets-then-meets-2.ensures.words w.meets-else-meets-3.ensures.words ])
+    let across : c.if-meets.value ≡ (meets c.load-ai.result.words c.load-bj.result.words || meets c.load-aj.result.words c.load-bi.result.words) = search rules in
+    let straight : c.if-meets-3.result ≡ (meets c.load-ai.result.words c.load-aj.result.words || meets c.load-bi.result.words c.load-bj.result.words) = search rules in
+    rw (← c.load-ai.ensures, ← c.load-aj.ensures, ← c.load-bi.ensures, ← c.load-bj.ensures, ← across, c.if-meets-2.true) (ap not straight)
 
 pub returns-else-meets-2 : goal.returns-else-meets-2
+unfolding apart_at apart context_at
 returns-else-meets-2 c =
-    let a = c.args in
-    let ai = c.load-ai in
-    let aj = c.load-aj in
-    let bi = c.load-bi in
-    let bj = c.load-bj in
-    let m = c.meets in
-    pair-no a.a.now a.b.now a.i a.j ai.result.words aj.result.words bi.result.words bj.result.words ai.ensures aj.ensures bi.ensures bj.ensures
-    c.if-meets.value
-    (elim c.if-meets.branch [ then-meets w ↦ or-first (meets ai.result.words bj.result.words) (meets aj.result.words bi.result.words) w.value-is w.if-meets.true m.ensures.words | else-meets w ↦ or-second (meets ai.result.words bj.result.words) (meets aj.result.words bi.result.words) w.value-is w.if-meets.false m.ensures.words w.meets-else-meets.ensures.words ])
-    c.if-meets-2.false
+    let across : c.if-meets.value ≡ (meets c.load-ai.result.words c.load-bj.result.words || meets c.load-aj.result.words c.load-bi.result.words) = search rules in
+    rw (← c.load-ai.ensures, ← c.load-aj.ensures, ← c.load-bi.ensures, ← c.load-bj.ensures, ← across, c.if-meets-2.false) refl

@@ -9,9 +9,6 @@ returns-then-room-s c = λ v R. add-full R c.if-room-s.true
 pub returns-then-room-row : goal.returns-then-room-row
 returns-then-room-row c = λ v R. add-over R (omega arith) c.if-room-row.true
 
-pub copy_rows-requires : goal.copy_rows-requires
-copy_rows-requires c = let r = roomy c.requires.1 in omega arith
-
 pub bounds-spans-s : goal.bounds-spans-s
 bounds-spans-s c = let r = roomy c.requires.1 in omega arith
 
@@ -23,6 +20,9 @@ bounds-marks-s c = let r = roomy c.requires.1 in omega arith
 
 pub bounds-marks-s-2 : goal.bounds-marks-s-2
 bounds-marks-s-2 c = let r = roomy c.requires.1 in simp length-set (omega arith)
+
+pub copy_rows-requires : goal.copy_rows-requires
+copy_rows-requires c = let r = roomy c.requires.1 in omega arith
 
 pub returns : goal.returns
 returns c =

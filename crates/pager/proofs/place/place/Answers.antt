@@ -1,40 +1,38 @@
 -- `place` meets its contract: an equal state, a union, or a new state. Assumes nothing.
-use Rattle.std.proofs.Common.{arith}
-use Rattle.pager.proofs.Putting.{weak-here, put-equal, put-weak, put-new}
+use Rattle.std.proofs.Common.{suc, ◌∙◌}
+use Rattle.pager.proofs.ByIndex.{none-left}
+use Rattle.pager.proofs.Putting.{equal-sought, weak-sought, weak-here, put-equal, put-weak, put-new}
 use Rattle.pager.proofs.place.place.Goals as goal
 
-pub returns-then-e-n : goal.returns-then-e-n
-returns-then-e-n c =
-    λ v R.
-    let e = c.find_state-e in
-    put-equal R e.result (e.ensures c.args.room v R) c.if-e-n.true
+pub returns-in-Some : goal.returns-in-Some
+returns-in-Some c = λ v R. let h = c.in-Some in put-equal R h.to (h.ensures c.args.room v R ∙ equal-sought (suc v.symbol) v.kernel v.states)
 
 pub join_state-requires : goal.join_state-requires
 join_state-requires c =
     let a = c.args in
-    let p = c.requires in
-    let f = c.find_state-f in
-    let w = weak-here p.1 f.result (f.ensures a.room p.0 p.1) c.if-f-n.true in
-    (a.room, a.count, a.made, p.0, p.1, w.0, w.1)
+    let v = c.requires.0 in
+    let R = c.requires.1 in
+    let h = c.in-Some-find_state in
+    let w = weak-here R h.to (h.ensures a.room v R ∙ weak-sought (suc v.symbol) v.kernel v.states) in
+    (a.room, a.count, a.made, v, R, w.0, w.1)
 
-pub returns-then-f-n : goal.returns-then-f-n
-returns-then-f-n c =
+pub returns-in-Some-find_state : goal.returns-in-Some-find_state
+returns-in-Some-find_state c =
     λ v R.
     let a = c.args in
-    let e = c.find_state-e in
-    let f = c.find_state-f in
-    let j = c.join_state in
-    let ef = f.ensures a.room v R in
-    let l = c.if-f-n.true in
-    let w = weak-here R f.result ef l in
-    put-weak R e.result (e.ensures a.room v R) (omega (arith, c.if-e-n.false)) f.result ef l _ _ (j.ensures a.room a.count a.made v R w.0 w.1)
+    let e = c.find_state in
+    let h = c.in-Some-find_state in
+    let q = h.ensures a.room v R ∙ weak-sought (suc v.symbol) v.kernel v.states in
+    let w = weak-here R h.to q in
+    put-weak R (none-left e.result (e.ensures a.room v R ∙ equal-sought (suc v.symbol) v.kernel v.states) c.in_default.not-Some) h.to q _ _
+    (c.join_state.ensures a.room a.count a.made v R w.0 w.1)
 
 pub returns : goal.returns
 returns c =
     λ v R.
     let a = c.args in
-    let e = c.find_state-e in
-    let f = c.find_state-f in
+    let e = c.find_state in
+    let f = c.find_state-2 in
     let d = c.add_state in
-    put-new R e.result (e.ensures a.room v R) (omega (arith, c.if-e-n.false)) f.result (f.ensures a.room v R)
-    (omega (arith, c.if-f-n.false)) d.result _ _ _ (d.ensures v R)
+    put-new R (none-left e.result (e.ensures a.room v R ∙ equal-sought (suc v.symbol) v.kernel v.states) c.in_default.not-Some)
+    (none-left f.result (f.ensures a.room v R ∙ weak-sought (suc v.symbol) v.kernel v.states) c.in_default-find_state.not-Some) d.result _ _ _ (d.ensures v R)

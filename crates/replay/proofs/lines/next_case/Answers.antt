@@ -1,36 +1,21 @@
 -- `next_case` looks at the numbers that `next_line` put. Assumes nothing.
-use mathlib.Core.Path.{sym, subst, ◌∙◌}
-use Rattle.words.specs.Lines.{Fits}
-use Rattle.words.proofs.Answers.{differ}
-use Rattle.replay.proofs.TallyLaws.{case-holds, case-differs, case-end, case-fault}
+use Rattle.std.proofs.Common.{◌≡◌, Ok, Err, ap, rules, ◌∙◌}
+use Rattle.replay.proofs.TallyLaws.{case-read, case-end, case-fault}
 use Rattle.replay.proofs.lines.next_case.Goals as goal
 
-pub slice_bounds-words-end : goal.slice_bounds-words-end
-slice_bounds-words-end c =
-    let l = c.next_line in
-    (subst (λ r. Fits r l.new.out) c.in-Numbers.is l.ensures.fits).0
-
-pub slice_bounds-holds-end : goal.slice_bounds-holds-end
-slice_bounds-holds-end c =
-    let l = c.next_line in
-    (subst (λ r. Fits r l.new.out) c.in-Numbers.is l.ensures.fits).1
-
-pub returns-then-holds : goal.returns-then-holds
-returns-then-holds c =
+pub returns-in_err-n : goal.returns-in_err-n
+returns-in_err-n c =
     let a = c.args in
-    case-holds a.list a.text.now a.at c.next_line.ensures.line _ _ c.in-Numbers.is (c.holds.ensures.0 c.if-holds.true)
+    let h : c.from_residual.result ≡ Err c.in_err-n.field-0.0 = search rules in
+    rw h (case-fault a.list a.text.now a.at c.next_line.ensures.line _ c.in_err-n.was)
 
-pub returns-else-holds : goal.returns-else-holds
-returns-else-holds c =
+pub returns-in_default : goal.returns-in_default
+returns-in_default c =
     let a = c.args in
-    case-differs a.list a.text.now a.at c.next_line.ensures.line _ _ c.in-Numbers.is (λ h. differ (sym c.if-holds.false ∙ c.holds.ensures.1 h))
+    case-end a.list a.text.now a.at c.next_line.ensures.line (c.in_ok-n.was ∙ ap (λ o. Ok o) c.in_default.is)
 
-pub returns-in-End : goal.returns-in-End
-returns-in-End c =
+pub returns : goal.returns
+returns c =
     let a = c.args in
-    case-end a.list a.text.now a.at c.next_line.ensures.line c.in-End.is
-
-pub returns-in-Fault : goal.returns-in-Fault
-returns-in-Fault c =
-    let a = c.args in
-    case-fault a.list a.text.now a.at c.next_line.ensures.line _ c.in-Fault.is
+    let i = c.in-Some in
+    case-read a.list a.text.now a.at c.next_line.ensures.line i.n i.place c.holds.result (c.in_ok-n.was ∙ ap (λ o. Ok o) i.is) c.holds.ensures

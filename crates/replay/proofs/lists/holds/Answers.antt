@@ -1,24 +1,26 @@
 -- `holds` asks the list that is named, or that the line names. Assumes nothing.
-use native.Mathlib.Omega.{arith}
+use Rattle.std.proofs.Common.{sym, ◌∙◌, arith}
 use Rattle.replay.proofs.ListLaws.{line-call, line-empty, line_other, line-refusal}
 use Rattle.replay.proofs.lists.holds.Goals as goal
 
-pub returns-then-list-ne-REFUSALS : goal.returns-then-list-ne-REFUSALS
-returns-then-list-ne-REFUSALS c =
+pub returns-then-list-number : goal.returns-then-list-number
+returns-then-list-number c =
     let a = c.args in
-    line-call a.list a.words.now c.if-list-ne-REFUSALS.true c.call_holds.ensures
+    line-call a.list a.words.now (λ e. c.if-list-number.true (e ∙ sym c.number.ensures)) c.call_holds.ensures
 
-pub returns-then-words-eq0 : goal.returns-then-words-eq0
-returns-then-words-eq0 c =
+pub returns-in_default : goal.returns-in_default
+returns-in_default c =
     let a = c.args in
-    line-empty a.list a.words.now (omega arith) (omega arith)
+    line-empty a.list a.words.now (c.if-list-number.false ∙ c.number.ensures) c.in_default.ensures.cases
 
-pub returns-then-words-gt-RUNS : goal.returns-then-words-gt-RUNS
-returns-then-words-gt-RUNS c =
+pub returns-then-number-call : goal.returns-then-number-call
+returns-then-number-call c =
     let a = c.args in
-    line_other a.list a.words.now (omega arith) c.if-words-gt-RUNS.true
+    let i = c.in-Some in
+    line_other a.list a.words.now (c.if-list-number.false ∙ c.number.ensures) i.call.now i.rest.now i.ensures.cases.0 (omega (arith, c.number-2.ensures, c.if-number-call.true))
 
 pub returns : goal.returns
 returns c =
     let a = c.args in
-    line-refusal a.list a.words.now (omega arith) (omega arith) (omega arith) c.call_holds-2.ensures
+    let i = c.in-Some in
+    line-refusal a.list a.words.now (c.if-list-number.false ∙ c.number.ensures) i.call.now i.rest.now i.ensures.cases.0 (omega (arith, c.number-2.ensures, c.if-number-call.false)) c.call_holds-2.ensures

@@ -4,24 +4,26 @@ use Rattle.statetable.proofs.Copying.{CopyRooms, copying-start, copying-next, co
 use Rattle.statetable.proofs.derive.copy_gotos.Goals as goal
 
 pub loop-s-init : goal.loop-s-init
-loop-s-init c = (omega arith, λ ss H. copying-start H)
+loop-s-init c = λ ss H. copying-start H
 
-pub slice_bounds-copy_row-end : goal.slice_bounds-copy_row-end
-slice_bounds-copy_row-end c =
-    let safe : CopyRooms c.sizes_of-z.result c.loop-s.s (length c.args.edges.now) (length c.loop-s.gotos) = let l = c.loop-s in
-    let z = c.sizes_of-z in
-    copied-rooms c.requires.1 l.s l.gotos (l.invariant.1 c.requires.0 c.requires.1) z.result z.ensures c.loop-s-test.true in
-    let r = safe in omega arith
+pub slice_bounds-copy_from_slice-end-in-loop-s : goal.slice_bounds-copy_from_slice-end-in-loop-s
+slice_bounds-copy_from_slice-end-in-loop-s c =
+    let l = c.loop-s in
+    let r = c.rules-rules in
+    let t = c.tokens in
+    let safe : CopyRooms r.result t.result l.s (length c.args.edges.now) (length l.gotos) =
+    copied-rooms c.requires.1 l.s l.gotos (l.invariant c.requires.0 c.requires.1) r.result r.ensures t.result t.ensures c.loop-s-test.true l.auto.gotos in
+    omega arith
 
 pub loop-s-preserved : goal.loop-s-preserved
 loop-s-preserved c =
     let l = c.loop-s in
-    let z = c.sizes_of-z in
-    let t = c.loop-s-test.true in
-    let m = c.copy_row in
-    (omega arith, λ ss H. copying-next H l.s l.gotos (l.invariant.1 ss H) z.result z.ensures t m.new.to m.ensures)
+    let r = c.rules-rules in
+    let t = c.tokens in
+    let m = c.copy_from_slice in
+    λ ss H. copying-next H l.s l.gotos (l.invariant ss H) r.result r.ensures t.result t.ensures c.loop-s-test.true m.new.self m.ensures.after
 
 pub returns : goal.returns
 returns c =
     let l = c.loop-s in
-    λ ss H. copying-done H l.s l.gotos (l.invariant.1 ss H) c.loop-s-test.false
+    λ ss H. copying-done H l.s l.gotos (l.invariant ss H) c.loop-s-test.false

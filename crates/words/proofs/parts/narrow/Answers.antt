@@ -1,31 +1,26 @@
 -- `narrow` puts word after word. Assumes nothing.
-use mathlib.Core.Path.{sym, ◌∙◌}
-use Prim.Native.Nat.{◌≤◌}
-use native.Mathlib.Omega.{arith}
-use lib.ListN.{length, length-set}
-use lib.Seq.{length-take-le}
+use Rattle.std.proofs.Common.{sym, ◌∙◌, arith}
+use lib.ListN.{length-set}
 use Rattle.words.proofs.PartLaws.{narrow-done, narrow-full, narrow_wide, narrow-more}
 use Rattle.words.proofs.parts.narrow.Goals as goal
 
-pub returns-then-out-i : goal.returns-then-out-i
-returns-then-out-i c =
-    let h : c.loop-i.i ≤ length c.loop-i.out = omega arith in
-    let e = c.loop-i.invariant.0 ∙ narrow-full c.args.words.now c.loop-i.i c.loop-i.out (omega arith) (omega arith) in
-    record { put = sym e; counts = (h, sym (length-take-le c.loop-i.i c.loop-i.out h)) }
+pub returns-then-out-i-clause-put : goal.returns-then-out-i-clause-put
+returns-then-out-i-clause-put c =
+    let l = c.loop-i in
+    sym (l.invariant.0 ∙ narrow-full c.args.words.now l.i l.out (omega arith) (omega arith))
 
-pub returns-then-w-gt4294967295 : goal.returns-then-w-gt4294967295
-returns-then-w-gt4294967295 c =
-    let h : c.loop-i.i ≤ length c.loop-i.out = omega arith in
-    let e = c.loop-i.invariant.0 ∙ narrow_wide c.args.words.now c.loop-i.i c.loop-i.out (omega arith) (omega arith) (omega arith) in
-    record { put = sym e; counts = (h, sym (length-take-le c.loop-i.i c.loop-i.out h)) }
+pub returns-in_default-clause-put : goal.returns-in_default-clause-put
+returns-in_default-clause-put c =
+    let l = c.loop-i in
+    sym (l.invariant.0 ∙ narrow_wide c.args.words.now l.i l.out (omega arith) (omega arith) (omega (arith, c.in_default.ensures)))
 
 pub loop-i-preserved : goal.loop-i-preserved
 loop-i-preserved c =
-    let e = c.loop-i.invariant.0 ∙ narrow-more c.args.words.now c.loop-i.i c.loop-i.out (omega arith) (omega arith) (omega arith) in
-    (e, simp length-set (omega arith), simp length-set c.loop-i.invariant.2)
+    let l = c.loop-i in
+    let e = c.in-Ok.ensures in
+    rw (e.1) (l.invariant.0 ∙ narrow-more c.args.words.now l.i l.out (omega arith) (omega arith) e.0, simp length-set (omega arith))
 
-pub returns : goal.returns
-returns c =
-    let h : c.loop-i.i ≤ length c.loop-i.out = omega arith in
-    let e = c.loop-i.invariant.0 ∙ narrow-done c.args.words.now c.loop-i.i c.loop-i.out (omega arith) in
-    record { put = sym e; counts = (h, sym (length-take-le c.loop-i.i c.loop-i.out h)) }
+pub returns-clause-put : goal.returns-clause-put
+returns-clause-put c =
+    let l = c.loop-i in
+    sym (l.invariant.0 ∙ narrow-done c.args.words.now l.i l.out (omega arith))

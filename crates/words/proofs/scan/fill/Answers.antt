@@ -1,31 +1,31 @@
 -- `fill` puts number after number, until one does not stand there. Assumes nothing.
-use mathlib.Core.Path.{sym, ap, ◌∙◌}
-use Prim.Native.Nat.{◌≤◌}
-use native.Mathlib.Omega.{arith}
-use lib.ListN.{length, length-set}
-use lib.Seq.{length-take-le}
+use Rattle.std.proofs.Common.{◌≡◌, Ok, Err, rules, sym, ap, ◌∙◌, arith}
 use Rattle.words.specs.Words.{read_of}
+use Rattle.words.specs.Lines.{filled}
 use Rattle.words.proofs.LineLaws.{fill_done, fill_more, fill_end, fill-fault}
 use Rattle.words.proofs.scan.fill.Goals as goal
 
-pub returns-in-End : goal.returns-in-End
-returns-in-End c =
+pub returns-in_err-number : goal.returns-in_err-number
+returns-in_err-number c =
     let a = c.args in
-    record { line = sym (c.loop-i.invariant.0 ∙ fill_end a.text.now a.n c.loop-i.place c.loop-i.i c.loop-i.out (omega arith) (sym (ap read_of c.in-End.is) ∙ c.next_word.ensures)); fits = tt }
+    let l = c.loop-i in
+    let h : c.from_residual.result ≡ Err c.in_err-number.field-0.0 = search rules in
+    ap (λ r. (filled a.n r, l.out)) h ∙ sym (l.invariant ∙ fill-fault a.text.now a.n l.place l.i l.out (omega arith) c.in_err-number.ensures)
 
-pub returns-in-Fault : goal.returns-in-Fault
-returns-in-Fault c =
+pub returns-in_default : goal.returns-in_default
+returns-in_default c =
     let a = c.args in
-    record { line = sym (c.loop-i.invariant.0 ∙ fill-fault a.text.now a.n c.loop-i.place c.loop-i.i c.loop-i.out (omega arith) (sym (ap read_of c.in-Fault.is) ∙ c.next_word.ensures)); fits = tt }
+    let l = c.loop-i in
+    sym (l.invariant ∙ fill_end a.text.now a.n l.place l.i l.out (omega arith) (sym (ap (λ r. read_of (Ok r)) c.in_default.is) ∙ c.in_ok-number.ensures))
 
 pub loop-i-preserved : goal.loop-i-preserved
 loop-i-preserved c =
     let a = c.args in
-    let e = fill_more a.text.now a.n c.loop-i.place c.loop-i.i c.loop-i.out (omega arith) (sym (ap read_of c.in-Number.is) ∙ c.next_word.ensures) in
-    (c.loop-i.invariant.0 ∙ e, omega arith, simp length-set c.loop-i.invariant.2)
+    let l = c.loop-i in
+    l.invariant ∙ fill_more a.text.now a.n l.place l.i l.out (omega arith) (sym (ap (λ r. read_of (Ok r)) c.in-Some.is) ∙ c.in_ok-number.ensures)
 
 pub returns : goal.returns
 returns c =
     let a = c.args in
-    let h : a.n ≤ length c.loop-i.out = omega arith in
-    record { line = sym (c.loop-i.invariant.0 ∙ fill_done a.text.now a.n c.loop-i.place c.loop-i.i c.loop-i.out (omega arith)); fits = (h, sym (length-take-le a.n c.loop-i.out h)) }
+    let l = c.loop-i in
+    sym (l.invariant ∙ fill_done a.text.now a.n l.place l.i l.out (omega arith))

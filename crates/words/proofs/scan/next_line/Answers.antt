@@ -1,31 +1,33 @@
 -- `next_line` reads a count, and then as many numbers if there is room. Assumes nothing.
-use mathlib.Core.Path.{◌≡◌, sym, ap, ◌∙◌}
-use native.Mathlib.Omega.{arith}
-use Rattle.words.specs.Words.{number, next_word, read_of}
-use Rattle.words.proofs.LineLaws.{line-fill, line-long, line-end, line-fault}
+use Rattle.std.proofs.Common.{◌≡◌, Ok, Err, rules, sym, ap, ◌∙◌, arith}
+use Rattle.words.specs.Words.{read_of}
+use Rattle.words.proofs.LineLaws.{count-read, line-fill, line-long, line-end, line-fault}
 use Rattle.words.proofs.scan.next_line.Goals as goal
 
-pub returns-then-out-n : goal.returns-then-out-n
-returns-then-out-n c =
+pub returns-in_err-count-clause-line : goal.returns-in_err-count-clause-line
+returns-in_err-count-clause-line c =
     let a = c.args in
-    let r : number c.index-n.result c.in-Number.p ≡ next_word a.text.now a.at =
-    rw c.index-n.ensures (sym (ap read_of c.in-Number.is) ∙ c.next_word.ensures) in
-    record { line = sym (line-long a.text.now a.at a.out.now r (omega arith)); fits = tt }
+    let h : c.from_residual.result ≡ Err c.in_err-count.field-0.0 = search rules in
+    ap (λ r. (read_of r, a.out.now)) h ∙ sym (line-fault a.text.now a.at a.out.now c.in_err-count.ensures)
 
-pub returns-else-out-n : goal.returns-else-out-n
-returns-else-out-n c =
+pub returns-in_default-clause-line : goal.returns-in_default-clause-line
+returns-in_default-clause-line c =
     let a = c.args in
-    let r : number c.index-n.result c.in-Number.p ≡ next_word a.text.now a.at =
-    rw c.index-n.ensures (sym (ap read_of c.in-Number.is) ∙ c.next_word.ensures) in
-    let f = c.fill.ensures in
-    record { line = f.line ∙ sym (line-fill a.text.now a.at a.out.now r (omega arith)); fits = f.fits }
+    sym (line-end a.text.now a.at a.out.now (sym (ap (λ r. read_of (Ok r)) c.in_default.is) ∙ c.in_ok-count.ensures))
 
-pub returns-in-End : goal.returns-in-End
-returns-in-End c =
+pub returns-then-out-n-clause-line : goal.returns-then-out-n-clause-line
+returns-then-out-n-clause-line c =
     let a = c.args in
-    record { line = sym (line-end a.text.now a.at a.out.now (sym (ap read_of c.in-End.is) ∙ c.next_word.ensures)); fits = tt }
+    sym (line-long a.text.now a.at a.out.now (count-read _ c.index-n.ensures c.in-Some.is c.in_ok-count.ensures) (omega arith))
 
-pub returns-in-Fault : goal.returns-in-Fault
-returns-in-Fault c =
+pub returns-in_err-end-clause-line : goal.returns-in_err-end-clause-line
+returns-in_err-end-clause-line c =
     let a = c.args in
-    record { line = sym (line-fault a.text.now a.at a.out.now (sym (ap read_of c.in-Fault.is) ∙ c.next_word.ensures)); fits = tt }
+    let h : c.from_residual-in_err-end.result ≡ Err c.in_err-end.field-0.0 = search rules in
+    ap (λ r. (read_of r, c.fill.new.out)) h ∙ c.in_err-end.ensures
+    ∙ sym (line-fill a.text.now a.at a.out.now (count-read _ c.index-n.ensures c.in-Some.is c.in_ok-count.ensures) (omega arith))
+
+pub returns-clause-line : goal.returns-clause-line
+returns-clause-line c =
+    let a = c.args in
+    c.in_ok-end.ensures ∙ sym (line-fill a.text.now a.at a.out.now (count-read _ c.index-n.ensures c.in-Some.is c.in_ok-count.ensures) (omega arith))

@@ -1,4 +1,4 @@
--- `TokenSet::meets` meets its contract. No word below i has a bit in both. Assumes nothing.
+-- `TokenSet::meets` meets its contract. Assumes nothing.
 use Rattle.std.proofs.Common.{true, false, arith}
 use Rattle.block.specs.Limits.{WORDS}
 use Rattle.block.proofs.Owned.{set-good}
@@ -17,5 +17,5 @@ returns c =
     let a = c.args.self.words in
     let b = c.args.other.words in
     let f = set-good c.args.self _ c.well_formed.0 in
-    let both = meets-told a b false f.1 (meets-none WORDS a b (omega (arith, f.0)) (λ k h. c.loop-i.invariant.1 k (omega arith))) in
+    let both = meets-told a b false f.1 (meets-none WORDS a b (omega (arith, f.0)) (λ k h. c.loop-i.invariant k (omega arith))) in
     record { words = both.0; members = both.1 }

@@ -1,25 +1,24 @@
--- `TokenSet::next` meets its contract. The next member from t on is that from `from` on. Assumes nothing.
-use Rattle.std.proofs.Common.{◌≡◌, sym, ap, ◌∙◌, arith}
-use Rattle.block.specs.Limits.{TOKENS}
-use Rattle.block.specs.Sets.{next_of}
-use Rattle.block.proofs.Next.{next_here, next-on, next-end}
+-- `TokenSet::next` meets its contract. Assumes nothing.
+use Rattle.std.proofs.Common.{true, false, ◌≡◌, rules, tests, length}
+use Rattle.std.proofs.lemmas.Iterator.{first_from_Range}
+use Rattle.block.specs.Limits.{WORDS}
+use Rattle.block.specs.Sets.{mem}
+use Rattle.block.proofs.Next.{Found, found-next, found-number}
 use Rattle.block.proofs.set.TokenSet.next.Goals as goal
+use Rattle.block.proofs.set.TokenSet.next.Goals.{After-find}
 
-pub returns-then-has : goal.returns-then-has
-returns-then-has c =
+found : (c : After-find) → Found c.args.self.words c.args.from c.find.result
+found c =
     let ws = c.args.self.words in
-    let l = c.loop-t in
-    sym (l.invariant.1 ∙ next_here ws l.t (omega arith) (sym c.has.ensures ∙ c.if-has.true))
+    first_from_Range _ _ _ _ (λ u. mem ws u ≡ true) (λ u. mem ws u ≡ false) c.find.ensures.ran
+    (λ x q k. search (rules, tests)) (λ x q k. (search rules, search (rules, tests)))
 
-pub loop-t-preserved : goal.loop-t-preserved
-loop-t-preserved c =
-    let ws = c.args.self.words in
-    let l = c.loop-t in
-    (omega arith, l.invariant.1 ∙ next-on ws l.t (omega arith) (sym c.has.ensures ∙ c.if-has.false))
+pub returns-clause-next : goal.returns-clause-next
+returns-clause-next c =
+    let size : length c.args.self.words ≡ WORDS = search rules in
+    found-next c.args.self.words c.args.from _ size (found c)
 
-pub returns : goal.returns
-returns c =
-    let ws = c.args.self.words in
-    let l = c.loop-t in
-    let e : l.t ≡ TOKENS = omega arith in
-    sym (l.invariant.1 ∙ ap (next_of ws) e ∙ next-end ws)
+pub returns-clause-number : goal.returns-clause-number
+returns-clause-number c =
+    let size : length c.args.self.words ≡ WORDS = search rules in
+    found-number c.args.self.words c.args.from _ size (found c)

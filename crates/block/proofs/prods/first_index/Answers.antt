@@ -1,7 +1,0 @@
--- `prods::first_index` meets its contract. Assumes nothing.
-use Rattle.std.proofs.Common.{arith}
-use Rattle.block.proofs.Good.{placed}
-use Rattle.block.proofs.prods.first_index.Goals as goal
-
-pub word-requires : goal.word-requires
-word-requires c = let w = placed c.requires.good in omega arith

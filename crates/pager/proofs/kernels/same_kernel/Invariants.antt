@@ -1,9 +1,0 @@
--- `same_kernel` meets its contract: the words up to i are the same. Assumes nothing.
-use Rattle.std.proofs.Common.{◌≡◌, ℕ, ◌<◌, ◌≤◌, ◌-◌, length, get_or}
-use Rattle.pager.proofs.kernels.same_kernel.Given as goal
-
-abbrev pub invariant-loop-i : goal.invariant-loop-i
-invariant-loop-i l = (length l.a ≡ length l.b) × (l.i ≤ length l.a) × ((k : ℕ) → k < l.i → get_or l.a k 0 ≡ get_or l.b k 0)
-
-abbrev pub decreases-loop-i : goal.decreases-loop-i
-decreases-loop-i l = length l.a - l.i

@@ -1,8 +1,0 @@
--- `text_room` has its length: by the law, since counting it out takes too long. Assumes nothing.
-use mathlib.Core.Path.{sym}
-use Prim.Native.Nat.{ℕ}
-use lib.ListN.{length-replicate}
-use Rattle.replay.proofs.lines.text_room.Goals as goal
-
-pub returns : goal.returns
-returns c = sym (length-replicate {0} {A = ℕ} 2097152 0)
