@@ -37,7 +37,7 @@ module _ (b : List ℕ) (p : ℕ) (F : List Ahead) (A : List Lookahead) (S : Ahe
   module _ (m : Bool) (s : List ℕ) (e : ahead_of F (body_of b p) ≡ ahead m s) where
     -- what the rule has afterwards
     now-has : either (get_or F (rule_of b p) nothing) (ahead_of F (body_of b p)) ≡ ahead (null_at A (rule_of b p) || m) (join (words_at A (rule_of b p)) s)
-    now-has = ap₂ either (aheads_at F A S (rule_of b p) (omega arith)) e ∙ either-parts (null_at A (rule_of b p)) m (words_at A (rule_of b p)) s
+    now-has = ap₂ either (aheads_at F A S.rule (rule_of b p) (omega arith)) e ∙ either-parts (null_at A (rule_of b p)) m (words_at A (rule_of b p)) s
 
     pub add-are : length A ≡ RULES → Small (body_of b p) → (x : Lookahead) → x.null ≡ (null_at A (rule_of b p) || m) → x.set.words ≡ join (words_at A (rule_of b p)) s
         → AheadsAre (set A (rule_of b p) x) (add_prod b F p)
@@ -63,7 +63,7 @@ module _ (b : List ℕ) (p : ℕ) (F : List Ahead) (A : List Lookahead) (S : Ahe
             ∙ ap₂ {C = Ahead} ahead (ap (λ y. y.null) same ∙ en) (ap (λ y. y.set.words) same ∙ ew))
         at r l (no d) =
             change-other (λ y. either y (ahead_of F (body_of b p))) nothing (rule_of b p) F r d
-            ∙ aheads_at F A S r l
+            ∙ aheads_at F A S.rule r l
             ∙ sym (ap (λ y. ahead y.null y.set.words) (get_or-set_other A (rule_of b p) r x unread d))
 
     -- nothing is new just when the mark stood and the union is what was there
@@ -72,10 +72,10 @@ module _ (b : List ℕ) (p : ℕ) (F : List Ahead) (A : List Lookahead) (S : Ahe
     add-still = (
       λ g.
           let h : ahead (null_at A (rule_of b p) || m) (join (words_at A (rule_of b p)) s) ≡ ahead (null_at A (rule_of b p)) (words_at A (rule_of b p)) =
-          sym now-has ∙ sym (change-at (λ x. either x (ahead_of F (body_of b p))) nothing (rule_of b p) F (omega arith)) ∙ ap (λ G. get_or G (rule_of b p) nothing) g ∙ aheads_at F A S (rule_of b p) (omega arith) in
+          sym now-has ∙ sym (change-at (λ x. either x (ahead_of F (body_of b p))) nothing (rule_of b p) F (omega arith)) ∙ ap (λ G. get_or G (rule_of b p) nothing) g ∙ aheads_at F A S.rule (rule_of b p) (omega arith) in
           (ap is_null h, ap first_in h),
       λ h. change-fixed (λ x. either x (ahead_of F (body_of b p))) (rule_of b p) F
-          (now-has ∙ ap₂ {C = Ahead} ahead h.0 h.1 ∙ sym (aheads_at F A S (rule_of b p) (omega arith))),
+          (now-has ∙ ap₂ {C = Ahead} ahead h.0 h.1 ∙ sym (aheads_at F A S.rule (rule_of b p) (omega arith))),
     )
 
 -- what the code makes of the array and answers, by the names of its locals

@@ -72,7 +72,7 @@ read-from A (suc n) k (a ∷ F) e h =
 -- a stored list is what the rooms hold
 pub aheads_is : (n : ℕ) (F : List Ahead) (A : List Lookahead) → n ≤ RULES → length F ≡ n → AheadsAre A F → F ≡ back_read 0 n A
 aheads_is n F A m e S =
-    read-from A n 0 F e (λ r l. aheads_at F A S r (omega arith) ∙ ap (λ (i : ℕ). ahead (null_at A i) (words_at A i)) (let z : r ≡ 0 + r = omega arith in z))
+    read-from A n 0 F e (λ r l. aheads_at F A S.rule r (omega arith) ∙ ap (λ (i : ℕ). ahead (null_at A i) (words_at A i)) (let z : r ≡ 0 + r = omega arith in z))
 
 -- the array holds F, and the rounds that are left from it end as all of them do
 pub record Rounds (b : List ℕ) (A : List Lookahead) : Type 0 where

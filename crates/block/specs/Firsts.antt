@@ -8,9 +8,13 @@ use Rattle.block.specs.declared.lookahead.Lookahead.{Lookahead}
 abbrev pub unread : Lookahead
 unread = record { null = false; set = record { words = [] } }
 
--- the array holds F, in sets of WORDS words
+-- the array holds F
+abbrev pub AheadsHold : List Lookahead → List Ahead → Type 0
+AheadsHold aheads F = (r : ℕ) → r < RULES → AheadIs (get_or aheads r unread) (get_or F r nothing)
+
+-- and in sets of WORDS words
 pub record AheadsAre (aheads : List Lookahead) (F : List Ahead) : Type 0 where
-  pub rule : (r : ℕ) → r < RULES → AheadIs (get_or aheads r unread) (get_or F r nothing)
+  pub rule : AheadsHold aheads F
   pub size : (r : ℕ) → r < RULES → length (get_or aheads r unread).set.words ≡ WORDS
 
 -- the array went from F to G, and the answer tells whether that changed anything

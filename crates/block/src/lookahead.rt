@@ -2,7 +2,7 @@
 ghost use Rattle.std.specs.Prelude.{List, ◌≡◌, ◌<◌, length};
 ghost use Rattle.block.specs.Block.{prods, rules};
 ghost use Rattle.block.specs.First.{Ahead, ahead_of, add_prod, round_of, firsts_of, AheadIs, Small};
-ghost use Rattle.block.specs.Firsts.{AheadsAre, Rounded};
+ghost use Rattle.block.specs.Firsts.{AheadsAre, AheadsHold, Rounded};
 
 use crate::grammar::Grammar;
 use crate::limits::RULES;
@@ -20,7 +20,7 @@ impl Lookahead {
     /// What is ahead in a rest, which may be any part of a right side, by what is ahead in each rule.
     pub fn of(rest: &[u32], aheads: &[Lookahead; RULES]) -> Lookahead
         requires { Small rest.now }
-        ensures { (F : List Ahead) → AheadsAre aheads.now F → AheadIs result (ahead_of F rest.now) }
+        ensures { (F : List Ahead) → AheadsHold aheads.now F → AheadIs result (ahead_of F rest.now) }
     {
         let mut set = TokenSet::empty();
         for symbol in rest {
@@ -74,7 +74,7 @@ fn one_round(grammar: Grammar<'_>, aheads: &mut [Lookahead; RULES]) -> bool
 }
 
 /// What may stand ahead in each rule of a grammar.
-#[derive(Drop)]
+#[derive(Clone, Copy)]
 pub struct Firsts<'a> {
     pub grammar: Grammar<'a>,
     pub rules: [Lookahead; RULES],

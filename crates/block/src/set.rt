@@ -62,6 +62,7 @@ impl TokenSet {
     pub fn join(self, other: Self) -> Self
         ensures words { result.words ≡ join self.words other.words }
         ensures members { (u : ℕ) → mem result.words u ≡ (mem self.words u || mem other.words u) }
+        ensures sizes { (length self.words ≡ WORDS) × (length other.words ≡ WORDS) }
     {
         let mut set = self;
         for i in 0..WORDS {
@@ -81,6 +82,14 @@ impl TokenSet {
             }
         }
         false
+    }
+
+    /// Whether both have the same tokens: what `==` answers.
+    pub fn same(self, other: Self) -> bool
+        ensures words { (result ≡ true) ↔ (self.words ≡ other.words) }
+        ensures members { (result ≡ true) ↔ ((u : ℕ) → mem self.words u ≡ mem other.words u) }
+    {
+        self == other
     }
 
     /// The least member from `from` on.

@@ -1,5 +1,5 @@
 -- `Lookahead::of` meets its contract: the walk of proofs/AheadRest. Assumes nothing.
-use Rattle.std.proofs.Common.{refl, sym, ap, ◌∙◌, ℕ, true, false, ◌/◌, arith, get_or}
+use Rattle.std.proofs.Common.{refl, sym, ap, ◌∙◌, ℕ, true, false, ◌/◌, arith, get_or, length}
 use borrow.Author.Tests.{not-false}
 use Rattle.block.specs.Sets.{with, join}
 use Rattle.block.proofs.Symbols.{token-is, rule-is, off}
@@ -38,9 +38,10 @@ returns-then-not-ahead c =
     let l = c.loop-symbol in
     let x = get_or a.rest.now l.symbol-index 0 in
     let o = rule-is x c.in-Rule.rule c.in-Rule.ensures in
+    let full = ap (λ (k : ℕ). length (words_at a.aheads.now k)) (sym o.1) ∙ c.join-set.ensures.sizes.1 in
     ahead-is _ false (join l.set.words (words_at a.aheads.now (x / 2))) _ refl
     (c.join-set.ensures.words ∙ ap (λ (k : ℕ). join l.set.words (words_at a.aheads.now k)) o.1)
-    (passed-stop a.rest.now a.aheads.now l.set.words l.symbol-index l.invariant c.loop-symbol-test.true o.0 (ap (null_at a.aheads.now) (sym o.1) ∙ off _ c.if-not-ahead.true) F S)
+    (passed-stop a.rest.now a.aheads.now l.set.words l.symbol-index l.invariant c.loop-symbol-test.true o.0 full (ap (null_at a.aheads.now) (sym o.1) ∙ off _ c.if-not-ahead.true) F S)
 
 pub loop-symbol-preserved : goal.loop-symbol-preserved
 loop-symbol-preserved c =
@@ -48,8 +49,9 @@ loop-symbol-preserved c =
     let l = c.loop-symbol in
     let x = get_or a.rest.now l.symbol-index 0 in
     let o = rule-is x c.in-Rule.rule c.in-Rule.ensures in
+    let full = ap (λ (k : ℕ). length (words_at a.aheads.now k)) (sym o.1) ∙ c.join-set.ensures.sizes.1 in
     let e = c.join-set.ensures.words ∙ ap (λ (k : ℕ). join l.set.words (words_at a.aheads.now k)) o.1 in
-    rw e (passed-more a.rest.now a.aheads.now l.set.words l.symbol-index l.invariant c.loop-symbol-test.true o.0 (ap (null_at a.aheads.now) (sym o.1) ∙ not-false _ c.if-not-ahead.false))
+    rw e (passed-more a.rest.now a.aheads.now l.set.words l.symbol-index l.invariant c.loop-symbol-test.true o.0 full (ap (null_at a.aheads.now) (sym o.1) ∙ not-false _ c.if-not-ahead.false))
 
 pub returns : goal.returns
 returns c =
