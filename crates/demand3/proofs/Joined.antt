@@ -59,7 +59,7 @@ roomy a k e h =
     }
 
 -- the cell of state s at place i stands among the words of a table
-word-within : (states width s i : ℕ) → s < states → i < width → s * width + i < states * width
+pub word-within : (states width s i : ℕ) → s < states → i < width → s * width + i < states * width
 word-within states width s i h k = omega (arith, mul-le-mul_right {m = suc s} {n = states} width h, suc-mul s width)
 
 -- ---- the runs on the tables of a clean build

@@ -1,4 +1,5 @@
 pub mod Front
+pub mod Narrowing
 pub mod Expected
 pub mod AheadLaws
 pub mod FirstLine

@@ -1,16 +1,16 @@
 -- A line and its first part: how it is read back, and when its words were all put. Assumes nothing.
-use mathlib.Core.Bool.{Bool, true, false, ◌&&◌}
+use mathlib.Core.Bool.{Bool, true, false, cond, ◌&&◌}
 use mathlib.Core.List.{List, [], ◌∷◌, ◌++◌}
 use mathlib.Core.Logic.{◌↔◌}
 use mathlib.Core.Path.{◌≡◌, refl, sym, ap, ◌∙◌}
-use Prim.Native.Nat.{ℕ, suc, ◌+◌, ◌^◌, ◌<◌}
+use Prim.Native.Nat.{ℕ, suc, ◌+◌, ◌^◌, ◌<◌, ◌≤◌}
 use native.Mathlib.Omega.{arith}
-use lib.Dec.{eqb, ltb}
-use lib.ListN.{length, take, drop, replicate, length-replicate, length-append}
-use lib.Seq.{take-append_seam, drop-append_seam, set_at, append_snoc}
-use borrow.Author.Tests.{eqb-true, le-leb, lt-ltb, le-ltb}
+use lib.Dec.{eqb, leb, ltb}
+use lib.ListN.{length, take, drop, replicate, length-replicate, length-append, take-append-drop}
+use lib.Seq.{length-take-le, take-append_seam, drop-append_seam, set_at, append_snoc}
+use borrow.Author.Tests.{eqb-true, le-leb, leb-true, lt-ltb, le-ltb}
 use Rattle.words.specs.Parts.{part_of, behind_of, narrow_from}
-use Rattle.words.specs.Given.{as_part, narrows, Given}
+use Rattle.words.specs.Given.{as_part, Part, narrows, Given}
 use Rattle.words.proofs.Answers.{differ, says-no}
 
 -- ---- the part is read back, and what stands behind it
@@ -34,6 +34,24 @@ module _ (line part more : List ℕ) (e : line ≡ as_part part ++ more) where
 pub none : (l : List ℕ) → length l ≡ 0 → l ≡ []
 none [] e = refl
 none (x ∷ l) e = absurd (omega arith)
+
+-- something stands behind the part: it stands whole
+pub part-whole : (line : List ℕ) → 1 ≤ length (behind_of line) → line ≡ as_part (part_of line) ++ behind_of line
+unfolding part_of behind_of
+part-whole [] h = absurd (omega arith)
+part-whole (n ∷ ws) h = go (leb n (length ws)) refl h
+  where
+    go : (c : Bool) → leb n (length ws) ≡ c → 1 ≤ length (cond c (drop n ws) [])
+        → n ∷ ws ≡ as_part (cond c (take n ws) []) ++ cond c (drop n ws) []
+    go true e l = rw (length-take-le n ws (leb-true n (length ws) e), take-append-drop n ws) refl
+    go false e l = absurd (omega arith)
+
+module _ {P : List ℕ → List ℕ → Type 0} {line : List ℕ} where
+  pub part-holds : Part P line → P (part_of line) (behind_of line)
+  part-holds g = rw (g.words, part-back g.part g.rest, behind-back g.part g.rest) g.holds
+
+  pub holds-part : 1 ≤ length (behind_of line) → P (part_of line) (behind_of line) → Part P line
+  holds-part l h = record { part = part_of line; rest = behind_of line; words = part-whole line l; holds = h }
 
 -- what `is_empty` answers
 pub empty-is : (l : List ℕ) (r : Bool) → r ≡ eqb (length l) 0 → (r ≡ true) ↔ (l ≡ [])
