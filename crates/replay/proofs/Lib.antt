@@ -1,4 +1,5 @@
 pub mod Readings
+pub mod AnyRoom
 pub mod ListLaws
 pub mod TallyLaws
 pub mod OneTally

@@ -7,27 +7,34 @@ use mathlib.Core.Path.{◌≡◌, refl, sym, ap, subst, ◌∙◌}
 use Prim.Native.Nat.{ℕ, suc, ◌+◌, ◌-◌, ◌<◌}
 use native.Mathlib.Omega.{arith}
 use native.Mathlib.Numerals.{add-one}
-use lib.ListN.{replicate, take}
+use lib.ListN.{length, replicate, take, length-replicate}
 use Rattle.words.specs.Lines.{line_from, line_of}
 use Rattle.words.specs.declared.scan.Fault as words
 use Rattle.words.proofs.Answers.{differ}
 use Rattle.replay.specs.Lists.{LineCase}
+use Rattle.replay.proofs.AnyRoom.{Alike, line-alike}
 use Rattle.replay.specs.Tally.{LINE, line_at, case_of, CaseIs, Holds, Differs, End, Fault, Counted, spent, ended, faulted, held, differed}
 
-module _ (list : ℕ) (text : List ℕ) (k : ℕ) {r : Result (Option (ℕ × ℕ)) words.Fault} {out : List ℕ} (e : (line_of r, out) ≡ line_from text k (replicate LINE 0)) where
-  pub case-read : (n p : ℕ) (h : Bool) → r ≡ Ok (Some (n, p)) → (h ≡ true) ↔ LineCase list (take n out) → CaseIs list text k (case_of (Ok (Some (h, p))))
+module _ (list : ℕ) (text : List ℕ) (k : ℕ) (r : Result (Option (ℕ × ℕ)) words.Fault) (out room : List ℕ) (size : length room ≡ LINE) (e : (line_of r, out) ≡ line_from text k room) where
+  read-alike : Alike (line_from text k room) (line_at text k)
   unfolding line_at
-  case-read n p true q i = (n, ap (λ x. x.0) (sym e) ∙ ap line_of q, subst (λ o. LineCase list (take n o)) (ap (λ x. x.1) e) (i.0 refl))
-  case-read n p false q i =
-      (n, ap (λ x. x.0) (sym e) ∙ ap line_of q, λ l. differ (i.1 (subst (λ o. LineCase list (take n o)) (ap (λ x. x.1) (sym e)) l)))
+  read-alike = line-alike text k room (replicate LINE 0) (size ∙ sym (length-replicate {0} {A = ℕ} LINE 0))
+
+  told : line_of r ≡ (line_at text k).0
+  told = ap (λ x. x.0) e ∙ read-alike.0
+
+  read-words : (n p : ℕ) → r ≡ Ok (Some (n, p)) → take n out ≡ take n (line_at text k).1
+  read-words n p q = ap (λ x. take n x.1) e ∙ read-alike.1 n p (sym (ap (λ x. x.0) e) ∙ ap line_of q)
+
+  pub case-read : (n p : ℕ) (h : Bool) → r ≡ Ok (Some (n, p)) → (h ≡ true) ↔ LineCase list (take n out) → CaseIs list text k (case_of (Ok (Some (h, p))))
+  case-read n p true q i = (n, sym told ∙ ap line_of q, subst (LineCase list) (read-words n p q) (i.0 refl))
+  case-read n p false q i = (n, sym told ∙ ap line_of q, λ l. differ (i.1 (subst (LineCase list) (sym (read-words n p q)) l)))
 
   pub case-end : r ≡ Ok None → CaseIs list text k End
-  unfolding line_at
-  case-end q = ap (λ x. x.0) (sym e) ∙ ap line_of q
+  case-end q = sym told ∙ ap line_of q
 
   pub case-fault : (f : words.Fault) → r ≡ Err f → CaseIs list text k (Fault f.place)
-  unfolding line_at
-  case-fault f q = ap (λ x. x.0) (sym e) ∙ ap line_of q
+  case-fault f q = sym told ∙ ap line_of q
 
 -- ---- no turn more, or one more, counted as the code counts
 pub turn-spent : (list : ℕ) (text : List ℕ) (t k c d : ℕ) → t ≡ 0 → Counted list text t k c d k c d

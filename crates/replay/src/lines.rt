@@ -26,15 +26,19 @@ pub struct Tally {
 }
 
 /// Whether the case on the line that comes next from `at` on holds, and the place behind the line. None where only blanks
-/// follow.
-fn next_case(list: u64, text: &[u8], at: usize) -> Result<Option<(bool, usize)>, Fault>
+/// follow. The room for its numbers is lent, so that it is not made anew for each line.
+fn next_case(
+    list: u64,
+    text: &[u8],
+    at: usize,
+    room: &mut [u64; LINE],
+) -> Result<Option<(bool, usize)>, Fault>
     ensures { CaseIs list text.now at (case_of result) }
 {
-    let mut words = [0u64; LINE];
-    let Some((n, place)) = next_line(text, at, &mut words)? else {
+    let Some((n, place)) = next_line(text, at, room)? else {
         return Ok(None);
     };
-    Ok(Some((holds(list, &words[..n]), place)))
+    Ok(Some((holds(list, &room[..n]), place)))
 }
 
 /// Whether only blanks follow.
@@ -51,9 +55,10 @@ pub fn count_cases(list: u64, text: &[u8]) -> Tally
     let mut at = 0;
     let mut cases = 0u64;
     let mut differ = 0u64;
+    let mut room = [0; LINE];
     // No line is shorter than a byte.
     for _ in 0..text.len() {
-        let Ok(case) = next_case(list, text, at) else {
+        let Ok(case) = next_case(list, text, at, &mut room) else {
             break;
         };
         let Some((holds, next)) = case else {
@@ -76,8 +81,9 @@ pub fn count_cases(list: u64, text: &[u8]) -> Tally
 fn tell_wrong(rt: &impl Print, list: u64, text: &[u8]) -> io::Result<()> {
     let mut from = 0;
     let mut told = 0;
+    let mut room = [0; LINE];
     for i in 0..text.len() {
-        match next_case(list, text, from) {
+        match next_case(list, text, from, &mut room) {
             Ok(Some((holds, next))) => {
                 from = next;
                 if !holds && told < TOLD {
