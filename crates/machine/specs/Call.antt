@@ -99,6 +99,12 @@ stop_number OutputRoom = 15
 stop_number StepLimit = 16
 stop_number BadTable = 17
 
+-- document 01's number of why no run began
+abbrev pub run_number : RunRefusal → ℕ
+run_number (Block refusal) = block.number_of refusal
+run_number RoomShort = 7
+run_number (BadToken place) = 13
+
 abbrev pub verdict_of : How → Verdict
 verdict_of Accept = Verdict.accept
 verdict_of Reject = Verdict.reject

@@ -1,7 +1,7 @@
 //! How a run ends, and why none begins.
 ghost use Rattle.std.specs.Prelude.{◌≡◌};
 ghost use Rattle.machine.specs.Moves.{refusal_number};
-ghost use Rattle.machine.specs.Call.{stop_number};
+ghost use Rattle.machine.specs.Call.{stop_number, run_number};
 ghost use Rattle.machine.specs.declared.ends.RunRefusal.TheVariants.{Block};
 
 use crate::answers::{Run, StepRefusal};
@@ -59,6 +59,19 @@ pub enum RunRefusal {
     Block(BlockRefusal),
     RoomShort,
     BadToken { place: usize },
+}
+
+impl RunRefusal {
+    /// 1 to 7, or 13.
+    pub fn number(self) -> u32
+        ensures { result ≡ run_number self }
+    {
+        match self {
+            RunRefusal::Block(refusal) => refusal.number(),
+            RunRefusal::RoomShort => 7,
+            RunRefusal::BadToken { .. } => 13,
+        }
+    }
 }
 
 impl From<BlockRefusal> for RunRefusal {
