@@ -19,6 +19,8 @@ fn refusal(block: &[u32]) -> u64
 }
 
 /// [block] → number
+// Not inlined, so that its rooms stand in no other frame (docs/DECISIONS.md, 67).
+#[inline(never)]
 pub fn block_holds(words: &[u64]) -> bool
     ensures { (result ≡ true) ↔ BlockCase words.now }
 {
@@ -33,6 +35,8 @@ pub fn block_holds(words: &[u64]) -> bool
 }
 
 /// [block] production → number [body]
+// Not inlined, so that its rooms stand in no other frame (docs/DECISIONS.md, 67).
+#[inline(never)]
 pub fn body_holds(words: &[u64]) -> bool
     ensures { (result ≡ true) ↔ BodyCase words.now }
 {
@@ -84,6 +88,8 @@ fn sets_hold(words: &[u64], aheads: &[Lookahead]) -> bool
 }
 
 /// [good block] → [nullable marks] [FIRST words]
+// Not inlined, so that its rooms stand in no other frame (docs/DECISIONS.md, 67).
+#[inline(never)]
 pub fn firsts_hold(words: &[u64]) -> bool
     ensures { (result ≡ true) ↔ FirstsCase words.now }
 {

@@ -100,6 +100,8 @@ fn kernel_holds(grammar: Grammar<'_>, kernel: &[u64], expected: &[u64]) -> bool
 }
 
 /// [good block] [kernel rows] → [closed rows] count  symbol [kernel rows]  symbol [kernel rows] ..
+// Not inlined, so that its rooms stand in no other frame (docs/DECISIONS.md, 67).
+#[inline(never)]
 pub fn closure_holds(words: &[u64]) -> bool
     ensures { (result ≡ true) ↔ ClosureCase words.now }
 {

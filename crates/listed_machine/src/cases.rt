@@ -160,6 +160,8 @@ fn tables_hold(block: &[u32], rest: &[u64]) -> bool
 
 /// [block] states [actions] [gotos] [input] step-limit fill stack-length output-length
 ///   → number place k steps height [stack] [output]
+// Not inlined, so that its rooms stand in no other frame (docs/DECISIONS.md, 67).
+#[inline(never)]
 pub fn run_holds(words: &[u64]) -> bool
     ensures { (result ≡ true) ↔ RunCase words.now }
 {

@@ -130,6 +130,8 @@ fn lent_holds(block: &[u32], given: Asked, rest: &[u64]) -> bool
 }
 
 /// [block] S I fill  lengths: items spans edges  → number  states items before  [items] [spans] [edges]
+// Not inlined, so that its rooms stand in no other frame (docs/DECISIONS.md, 67).
+#[inline(never)]
 pub fn graph_holds(words: &[u64]) -> bool
     ensures { (result ≡ true) ↔ GraphCase words.now }
 {

@@ -177,6 +177,8 @@ fn lent_holds(block: &[u32], named: Named, fill: u64, rest: &[u64]) -> bool
 
 /// [block] S I limit-rr limit-sr fill  eleven lengths
 ///   → number a b c  states items before rr sr settled  eleven [buffer]
+// Not inlined, so that its rooms stand in no other frame (docs/DECISIONS.md, 67).
+#[inline(never)]
 pub fn build_holds(words: &[u64]) -> bool
     ensures { (result ≡ true) ↔ BuildCase words.now }
 {

@@ -132,6 +132,8 @@ fn asked_holds(kind: u64, words: &[u64]) -> bool
 }
 
 /// kind [block] states [table] state column → number word
+// Not inlined, so that its rooms stand in no other frame (docs/DECISIONS.md, 67).
+#[inline(never)]
 pub fn query_holds(words: &[u64]) -> bool
     ensures { (result ≡ true) ↔ QueryCase words.now }
 {
