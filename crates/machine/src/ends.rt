@@ -67,7 +67,7 @@ impl RunRefusal {
         ensures { result ≡ run_number self }
     {
         match self {
-            RunRefusal::Block(refusal) => refusal.number(),
+            RunRefusal::Block(why) => why.number(),
             RunRefusal::RoomShort => 7,
             RunRefusal::BadToken { .. } => 13,
         }
